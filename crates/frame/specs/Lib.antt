@@ -1,0 +1,4 @@
+pub mod Frame
+pub mod Numbers
+pub mod Answer
+pub mod Worked

@@ -1,0 +1,6 @@
+pub mod Tests
+pub mod Parameters
+pub mod Validity
+pub mod Fields
+pub mod Events
+pub mod Kept

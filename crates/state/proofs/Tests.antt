@@ -1,0 +1,60 @@
+-- Laws of tests and of choices by a test. Assumes nothing.
+use Prim.Native.Nat.{ℕ, zero, suc, _≤_, _<_}
+use mathlib.Core.Bool.{Bool, true, false, _&&_}
+use mathlib.Core.Path.{_≡_, refl, sym, ap, _∙_}
+use native.Mathlib.Nat.{eq-or-lt-of-le}
+use native.Mathlib.Omega.{arith}
+use mathlib.Core.Logic.{_⊎_, inl, inr, ⊎-elim}
+use lib.Dec.{leb, ltb}
+use borrow.Author.Tests.{le-leb, leb-true, ltb-true, ltb-false}
+use Rattle.state.specs.Test.{pick, between}
+
+pub and-yes : (a b : Bool) → a ≡ true → b ≡ true → (a && b) ≡ true
+and-yes true b p q = q
+and-yes false b p q = p
+
+pub and-no : (a b : Bool) → (a ≡ true → b ≡ true → ⊥) → (a && b) ≡ false
+and-no true true h = absurd (h refl refl)
+and-no true false h = refl
+and-no false b h = refl
+
+pub and-left : (a b : Bool) → (a && b) ≡ true → a ≡ true
+and-left true b h = refl
+and-left false b h = h
+
+pub and-right : (a b : Bool) → (a && b) ≡ true → b ≡ true
+and-right true b h = h
+and-right false true h = refl
+and-right false false h = h
+
+pub between-yes : (low high x : ℕ) → low ≤ x → x ≤ high → between low high x ≡ true
+between-yes low high x p q = and-yes (leb low x) (leb x high) (le-leb low x p) (le-leb x high q)
+
+pub between-no : (low high x : ℕ) → (low ≤ x → x ≤ high → ⊥) → between low high x ≡ false
+between-no low high x h = and-no (leb low x) (leb x high) (λ p q. h (leb-true low x p) (leb-true x high q))
+
+pub between-low : (low high x : ℕ) → between low high x ≡ true → low ≤ x
+between-low low high x h = leb-true low x (and-left (leb low x) (leb x high) h)
+
+pub between-high : (low high x : ℕ) → between low high x ≡ true → x ≤ high
+between-high low high x h = leb-true x high (and-right (leb low x) (leb x high) h)
+
+-- one number is below another, or not
+pub below-or-not : (a b : ℕ) → (a < b) ⊎ (b ≤ a)
+below-or-not a b = go (ltb a b) refl
+  where
+    go : (t : Bool) → ltb a b ≡ t → (a < b) ⊎ (b ≤ a)
+    go true e = inl (ltb-true a b e)
+    go false e = inr (ltb-false a b e)
+
+-- a test that holds at each number below n
+abbrev pub allBelow : (ℕ → Bool) → ℕ → Bool
+allBelow p zero = true
+allBelow p (suc n) = p n && allBelow p n
+
+-- a test that was computed over all numbers below n holds at each of them
+pub holds-below : (p : ℕ → Bool) (n : ℕ) → allBelow p n ≡ true → (i : ℕ) → i < n → p i ≡ true
+holds-below p zero h i l = absurd (omega arith)
+holds-below p (suc n) h i l =
+    ⊎-elim (λ (q : i ≡ n). ap p q ∙ and-left (p n) (allBelow p n) h) (λ (q : i < n). holds-below p n (and-right (p n) (allBelow p n) h) i q)
+    (eq-or-lt-of-le (omega arith))

@@ -1,0 +1,168 @@
+-- Validity, field by field. Assumes nothing.
+use Prim.Native.Nat.{ℕ, zero, suc, _+_, _≤_, _<_}
+use mathlib.Core.Bool.{Bool, true, false, not, _&&_, false≢true}
+use mathlib.Core.Path.{_≡_, refl, sym, ap, _∙_}
+use mathlib.Core.List.{List, [], _∷_, _++_}
+use mathlib.Core.Logic.{⊎-elim}
+use native.Mathlib.Nat.{eq-or-lt-of-le, not-suc-le-zero, le-of-suc-le-suc}
+use native.Mathlib.Numerals.{add-one}
+use native.Mathlib.Omega.{arith}
+use lib.Dec.{eqb}
+use lib.ListN.{length, getD}
+use borrow.Author.Tests.{eq-eqb, eqb-true, not-true, not-false}
+use Rattle.state.specs.declared.Phase.{Phase}
+use Rattle.state.specs.declared.Phase.the-variants.{Idle, Set, Running, Stopped, Done}
+use Rattle.state.specs.declared.Record.{Record}
+use Rattle.state.specs.Test.{pick, between}
+use Rattle.state.specs.Parameter.{recipes, range, parameterCount}
+use Rattle.state.specs.Field.{Field, address, value, level, get, fieldRange, fieldsFor, parameterFields, phaseNumber, flagNumber, off, on}
+use Rattle.state.specs.Valid.{within, allIn, fullLength, valid}
+use Rattle.state.proofs.Tests.{and-yes, and-no, and-left, and-right, between-yes, between-no, between-low, between-high}
+
+pub flag-in : (b : Bool) → between off on (flagNumber b) ≡ true
+flag-in true = refl
+flag-in false = refl
+
+pub phase-in : (p : Phase) → between 0 4 (phaseNumber p) ≡ true
+phase-in Idle = refl
+phase-in Set = refl
+phase-in Running = refl
+phase-in Stopped = refl
+phase-in Done = refl
+
+and-grouped : (a b c d : Bool) → d ≡ (b && c) → (a && d) ≡ ((a && b) && c)
+and-grouped true b c d e = e
+and-grouped false b c d e = refl
+
+pub all-append : (r : Record) (xs ys : List Field) → allIn r (xs ++ ys) ≡ (allIn r xs && allIn r ys)
+unfolding allIn
+all-append r [] ys = refl
+all-append r (x ∷ xs) ys = and-grouped (within (fieldRange x) (get x r)) (allIn r xs) (allIn r ys) (allIn r (xs ++ ys)) (all-append r xs ys)
+
+-- a field of the list is in its range
+pub all-at : (r : Record) (fs : List Field) (i : ℕ) → allIn r fs ≡ true → i < length fs
+    → within (fieldRange (getD fs i address)) (get (getD fs i address) r) ≡ true
+unfolding allIn
+all-at r [] i h l = absurd (not-suc-le-zero l)
+all-at r (f ∷ fs) zero h l = and-left (within (fieldRange f) (get f r)) (allIn r fs) h
+all-at r (f ∷ fs) (suc i) h l = all-at r fs i (and-right (within (fieldRange f) (get f r)) (allIn r fs) h) (le-of-suc-le-suc l)
+
+-- ---- the fields but the parameters'
+
+-- those whose type allows more than their range
+pub record Scalars (r : Record) : Type 0 where
+  pub address-low : 1 ≤ r .address
+  pub address-high : r .address ≤ 99
+  pub access-high : r .access ≤ 3
+  pub recipe-low : 1 ≤ r .recipe
+  pub recipe-high : r .recipe ≤ recipes
+  pub preset-high : r .preset ≤ 999999
+  pub raw-high : r .raw ≤ 99999999
+  pub number-low : 1 ≤ r .number
+  pub number-high : r .number ≤ 9999
+
+pub scalars-yes : (r : Record) → Scalars r → allIn r (fieldsFor 0) ≡ true
+unfolding allIn
+scalars-yes r f =
+    simp (
+      between-yes 1 99 (r .address) (f .address-low) (f .address-high),
+      between-yes 0 3 (r .access) (omega arith) (f .access-high),
+      phase-in,
+      flag-in,
+      between-yes 1 recipes (r .recipe) (f .recipe-low) (f .recipe-high),
+      between-yes 0 999999 (r .preset) (omega arith) (f .preset-high),
+      between-yes 0 99999999 (r .raw) (omega arith) (f .raw-high),
+      between-yes 1 9999 (r .number) (f .number-low) (f .number-high),
+    )
+
+pub scalars-tell : (r : Record) → allIn r (fieldsFor 0) ≡ true → Scalars r
+scalars-tell r h =
+    let at : (i : ℕ) → i < 12 → within (fieldRange (getD (fieldsFor 0) i address)) (get (getD (fieldsFor 0) i address) r) ≡ true = λ i l. all-at r (fieldsFor 0) i h l in
+    record {
+      address-low = between-low 1 99 _ (at 0 (omega arith));
+      address-high = between-high 1 99 _ (at 0 (omega arith));
+      access-high = between-high 0 3 _ (at 1 (omega arith));
+      recipe-low = between-low 1 recipes _ (at 8 (omega arith));
+      recipe-high = between-high 1 recipes _ (at 8 (omega arith));
+      preset-high = between-high 0 999999 _ (at 9 (omega arith));
+      raw-high = between-high 0 99999999 _ (at 10 (omega arith));
+      number-low = between-low 1 9999 _ (at 11 (omega arith));
+      number-high = between-high 1 9999 _ (at 11 (omega arith));
+    }
+
+decided : (b : Bool) → (b ≡ true → ⊥) → false ≡ b
+decided true h = absurd (h refl)
+decided false h = refl
+
+pub scalars-no : (r : Record) → (Scalars r → ⊥) → false ≡ allIn r (fieldsFor 0)
+scalars-no r h = decided (allIn r (fieldsFor 0)) (λ t. h (scalars-tell r t))
+
+-- ---- the parameters' fields
+
+-- the value and the level at place i
+abbrev pub pairIn : Record → ℕ → Bool
+pairIn r i = within (fieldRange (value i)) (get (value i) r) && within (fieldRange (level i)) (get (level i) r)
+
+pub pairs-more : (r : Record) (i : ℕ) → allIn r (parameterFields (i + 1)) ≡ (allIn r (parameterFields i) && pairIn r i)
+unfolding allIn
+pairs-more r i = rw add-one (all-append r (parameterFields i) (value i ∷ level i ∷ []) ∙ ap (λ (b : Bool). allIn r (parameterFields i) && b) (last (within (fieldRange (value i)) (get (value i) r)) (within (fieldRange (level i)) (get (level i) r))))
+  where
+    last : (a b : Bool) → (a && (b && true)) ≡ (a && b)
+    last true true = refl
+    last true false = refl
+    last false b = refl
+
+-- one pair more
+pub pairs-yes : (r : Record) (i : ℕ) (b : Bool) → allIn r (parameterFields i) ≡ true → b ≡ pairIn r i → not b ≡ false → allIn r (parameterFields (i + 1)) ≡ true
+pairs-yes r i b h e n = pairs-more r i ∙ and-yes (allIn r (parameterFields i)) (pairIn r i) h (sym e ∙ not-false b n)
+
+-- each pair is in its ranges
+pub pairs-at : (r : Record) (n i : ℕ) → allIn r (parameterFields n) ≡ true → i < n → pairIn r i ≡ true
+pairs-at r zero i h l = absurd (omega arith)
+pairs-at r (suc n) i h l =
+    let e : allIn r (parameterFields n) && pairIn r n ≡ true = sym (rw add-one at (pairs-more r n)) ∙ h in
+    ⊎-elim (λ (q : i ≡ n). ap (pairIn r) q ∙ and-right (allIn r (parameterFields n)) (pairIn r n) e)
+    (λ (q : i < n). pairs-at r n i (and-left (allIn r (parameterFields n)) (pairIn r n) e) q)
+    (eq-or-lt-of-le (omega arith))
+
+-- ---- the whole
+pub fields-split : (r : Record) (n : ℕ) → allIn r (fieldsFor n) ≡ (allIn r (fieldsFor 0) && allIn r (parameterFields n))
+fields-split r n = all-append r (fieldsFor 0) (parameterFields n)
+
+-- what validity tells
+pub record Facts (r : Record) : Type 0 where
+  pub scalars : Scalars r
+  pub values-length : length (r .values) ≡ parameterCount
+  pub levels-length : length (r .levels) ≡ parameterCount
+  pub pairs : (i : ℕ) → i < parameterCount → pairIn r i ≡ true
+
+pub valid-tell : (r : Record) → valid r ≡ true → Facts r
+unfolding valid
+valid-tell r h =
+    let l = and-left (fullLength r) (allIn r (fieldsFor parameterCount)) h in
+    let f = sym (fields-split r parameterCount) ∙ and-right (fullLength r) (allIn r (fieldsFor parameterCount)) h in
+    let a = eqb (length (r .values)) parameterCount in
+    let b = eqb (length (r .levels)) parameterCount in
+    record {
+      scalars = scalars-tell r (and-left (allIn r (fieldsFor 0)) (allIn r (parameterFields parameterCount)) f);
+      values-length = eqb-true (length (r .values)) parameterCount (and-left a b l);
+      levels-length = eqb-true (length (r .levels)) parameterCount (and-right a b l);
+      pairs = λ i q. pairs-at r parameterCount i (and-right (allIn r (fieldsFor 0)) (allIn r (parameterFields parameterCount)) f) q;
+    }
+
+pub not-valid-scalars : (r : Record) (b : Bool) → b ≡ allIn r (fieldsFor 0) → not b ≡ true → false ≡ valid r
+not-valid-scalars r b e n = decided (valid r) (λ h. false≢true (sym (not-true b n) ∙ (e ∙ scalars-yes r (valid-tell r h .scalars))))
+
+pub not-valid-pair : (r : Record) (i : ℕ) (b : Bool) → b ≡ pairIn r i → not b ≡ true → i < parameterCount → false ≡ valid r
+not-valid-pair r i b e n l = decided (valid r) (λ h. false≢true (sym (not-true b n) ∙ (e ∙ valid-tell r h .pairs i l)))
+
+pub valid-all : (r : Record) (b : Bool) (i : ℕ) → length (r .values) ≡ parameterCount → length (r .levels) ≡ parameterCount
+    → b ≡ allIn r (fieldsFor 0) → not b ≡ false → allIn r (parameterFields i) ≡ true → i ≤ parameterCount → parameterCount ≤ i → true ≡ valid r
+unfolding valid
+valid-all r b i v l e n h p q =
+    let all : parameterCount ≡ i = omega arith in
+    sym
+    (and-yes (fullLength r) (allIn r (fieldsFor parameterCount))
+    (and-yes (eqb (length (r .values)) parameterCount) (eqb (length (r .levels)) parameterCount) (eq-eqb _ _ v) (eq-eqb _ _ l))
+    (fields-split r parameterCount ∙ and-yes (allIn r (fieldsFor 0)) (allIn r (parameterFields parameterCount)) (sym e ∙ not-false b n)
+    (ap (λ (k : ℕ). allIn r (parameterFields k)) all ∙ h)))

@@ -1,0 +1,158 @@
+use native.Mathlib.Omega.{arith}
+use Rattle.state.proofs.Parameters.{place-given-recipe, place-given-system, place-not-given}
+use borrow.Author.Needs.{needs}
+use Rattle.state.proofs.place_of.Statement.{statement}
+use Rattle.state.proofs.place_of.Tie as tie
+
+cast-t5 : tie.Need-cast-t5
+cast-t5 c = search needs
+
+cast-t7 : tie.Need-cast-t7
+cast-t7 c = search needs
+
+add-t8 : tie.Need-add-t8
+add-t8 c = search needs
+
+cast-t10 : tie.Need-cast-t10
+cast-t10 c = search needs
+
+add-t11 : tie.Need-add-t11
+add-t11 c = search needs
+
+cast-t13 : tie.Need-cast-t13
+cast-t13 c = search needs
+
+add-t14 : tie.Need-add-t14
+add-t14 c = search needs
+
+cast-t16 : tie.Need-cast-t16
+cast-t16 c = search needs
+
+add-t17 : tie.Need-add-t17
+add-t17 c = search needs
+
+cast-t19 : tie.Need-cast-t19
+cast-t19 c = search needs
+
+add-t20 : tie.Need-add-t20
+add-t20 c = search needs
+
+cast-t22 : tie.Need-cast-t22
+cast-t22 c = search needs
+
+add-t23 : tie.Need-add-t23
+add-t23 c = search needs
+
+cast-t25 : tie.Need-cast-t25
+cast-t25 c = search needs
+
+add-t26 : tie.Need-add-t26
+add-t26 c = search needs
+
+cast-t28 : tie.Need-cast-t28
+cast-t28 c = search needs
+
+mul-t29 : tie.Need-mul-t29
+mul-t29 c = search needs
+
+add-t30 : tie.Need-add-t30
+add-t30 c = search needs
+
+returns : tie.Need-returns
+returns c = place-given-recipe _ 1 _ (omega arith) (omega arith) (omega arith) (omega arith) (omega arith)
+
+returns-2 : tie.Need-returns-2
+returns-2 c = place-given-recipe _ 2 _ (omega arith) (omega arith) (omega arith) (omega arith) (omega arith)
+
+returns-3 : tie.Need-returns-3
+returns-3 c = place-given-recipe _ 3 _ (omega arith) (omega arith) (omega arith) (omega arith) (omega arith)
+
+returns-4 : tie.Need-returns-4
+returns-4 c = place-given-recipe _ 4 _ (omega arith) (omega arith) (omega arith) (omega arith) (omega arith)
+
+returns-5 : tie.Need-returns-5
+returns-5 c = place-given-recipe _ 5 _ (omega arith) (omega arith) (omega arith) (omega arith) (omega arith)
+
+returns-6 : tie.Need-returns-6
+returns-6 c = place-given-recipe _ 6 _ (omega arith) (omega arith) (omega arith) (omega arith) (omega arith)
+
+returns-7 : tie.Need-returns-7
+returns-7 c = place-given-recipe _ 7 _ (omega arith) (omega arith) (omega arith) (omega arith) (omega arith)
+
+returns-8 : tie.Need-returns-8
+returns-8 c = place-given-recipe _ 8 _ (omega arith) (omega arith) (omega arith) (omega arith) (omega arith)
+
+returns-9 : tie.Need-returns-9
+returns-9 c = place-given-system _ _ (omega arith) (omega arith) (omega arith)
+
+returns-10 : tie.Need-returns-10
+returns-10 c = place-not-given _ (λ r a b l h. omega arith) (λ l h. omega arith)
+
+returns-11 : tie.Need-returns-11
+returns-11 c = place-not-given _ (λ r a b l h. omega arith) (λ l h. omega arith)
+
+returns-12 : tie.Need-returns-12
+returns-12 c = place-not-given _ (λ r a b l h. omega arith) (λ l h. omega arith)
+
+returns-13 : tie.Need-returns-13
+returns-13 c = place-not-given _ (λ r a b l h. omega arith) (λ l h. omega arith)
+
+returns-14 : tie.Need-returns-14
+returns-14 c = place-not-given _ (λ r a b l h. omega arith) (λ l h. omega arith)
+
+returns-15 : tie.Need-returns-15
+returns-15 c = place-not-given _ (λ r a b l h. omega arith) (λ l h. omega arith)
+
+returns-16 : tie.Need-returns-16
+returns-16 c = place-not-given _ (λ r a b l h. omega arith) (λ l h. omega arith)
+
+returns-17 : tie.Need-returns-17
+returns-17 c = place-not-given _ (λ r a b l h. omega arith) (λ l h. omega arith)
+
+returns-18 : tie.Need-returns-18
+returns-18 c = place-not-given _ (λ r a b l h. omega arith) (λ l h. omega arith)
+
+returns-19 : tie.Need-returns-19
+returns-19 c = place-not-given _ (λ r a b l h. omega arith) (λ l h. omega arith)
+
+pub place-of-spec : {M : Type 1} → statement M
+place-of-spec =
+    tie.close
+    (tie.spec
+    cast-t5
+    cast-t7
+    add-t8
+    cast-t10
+    add-t11
+    cast-t13
+    add-t14
+    cast-t16
+    add-t17
+    cast-t19
+    add-t20
+    cast-t22
+    add-t23
+    cast-t25
+    add-t26
+    cast-t28
+    mul-t29
+    add-t30
+    returns
+    returns-2
+    returns-3
+    returns-4
+    returns-5
+    returns-6
+    returns-7
+    returns-8
+    returns-9
+    returns-10
+    returns-11
+    returns-12
+    returns-13
+    returns-14
+    returns-15
+    returns-16
+    returns-17
+    returns-18
+    returns-19)

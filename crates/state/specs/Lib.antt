@@ -1,0 +1,5 @@
+pub mod Test
+pub mod Parameter
+pub mod Field
+pub mod Valid
+pub mod Event

@@ -1,0 +1,381 @@
+// The controller's record: its parameters, its validity, what the panel does to it and its phase changes.
+ghost use mathlib.Core.Path.{_≡_};
+ghost use mathlib.Core.Bool.{_&&_};
+ghost use Prim.Native.Nat.{_%_};
+ghost use Rattle.state.specs.Test.{between};
+ghost use Rattle.state.specs.Parameter.{codeAt, rangeAt, placeOf};
+ghost use Rattle.state.specs.Field.{Field, put, phaseNumber, fieldRange, fieldsFor};
+ghost use Rattle.state.specs.Valid.{within, allIn, valid};
+ghost use Rattle.state.specs.Event.{after, nextNumber, batchSet, started, halted, ended};
+
+// The number of recipes. Places, counts and lengths follow from it.
+pub const RECIPES: usize = 8;
+
+// Three parameters a recipe, and the system's eight.
+pub const PARAMETERS: usize = 3 * RECIPES + 8;
+
+pub enum Phase {
+    Idle,
+    Set,
+    Running,
+    Stopped,
+    Done,
+}
+
+// Where a parameter stands in the list by rising code.
+pub enum Place {
+    At(usize),
+    Nothing,
+}
+
+// The low end and the high end of what a field may hold.
+pub struct Range {
+    pub low: u32,
+    pub high: u32,
+}
+
+pub struct Record {
+    pub address: u8,
+    // The access of this link.
+    pub access: u8,
+    pub phase: Phase,
+    pub keypad: bool,
+    pub flow: bool,
+    // A parameter was changed (PC).
+    pub changed: bool,
+    // A batch was reset (BD).
+    pub reset: bool,
+    // The power failed (PF).
+    pub powerfail: bool,
+    pub recipe: u8,
+    pub preset: u32,
+    pub raw: u32,
+    // The batch number.
+    pub number: u16,
+    // By place.
+    pub values: [u32; PARAMETERS],
+    pub levels: [u8; PARAMETERS],
+}
+
+// What the panel does.
+pub enum Event {
+    Pulses(u16),
+    Still,
+    KeypadOn,
+    KeypadOff,
+    PowerBack,
+}
+
+// ---- parameters
+
+// The place of the parameter with a code.
+pub fn place_of(code: u16) -> Place
+    ensures { λ p. ⌜ p ≡ placeOf code ⌝ }
+{
+    match code {
+        11..=13 => Place::At((code - 11) as usize),
+        21..=23 => Place::At((code - 21) as usize + 3),
+        31..=33 => Place::At((code - 31) as usize + 6),
+        41..=43 => Place::At((code - 41) as usize + 9),
+        51..=53 => Place::At((code - 51) as usize + 12),
+        61..=63 => Place::At((code - 61) as usize + 15),
+        71..=73 => Place::At((code - 71) as usize + 18),
+        81..=83 => Place::At((code - 81) as usize + 21),
+        801..=808 => Place::At((code - 801) as usize + 3 * RECIPES),
+        _ => Place::Nothing,
+    }
+}
+
+// The code of the parameter at a place; 0 beyond the last.
+pub fn code_at(place: usize) -> u16
+    ensures { λ c. ⌜ c ≡ codeAt place ⌝ }
+{
+    if place < 3 * RECIPES {
+        return (10 * (place / 3 + 1) + place % 3 + 1) as u16;
+    }
+    if place < PARAMETERS {
+        return (801 + (place - 3 * RECIPES)) as u16;
+    }
+    0
+}
+
+// Share, factor and low flow.
+const RECIPE_LOWS: [u32; 3] = [0, 8000, 1];
+
+const RECIPE_HIGHS: [u32; 3] = [10000, 12000, 9999];
+
+// 801 to 808.
+const SYSTEM_LOWS: [u32; 8] = [0, 0, 0, 1, 0, 0, 1, 0];
+
+const SYSTEM_HIGHS: [u32; 8] = [99, 999, 9999, 9999, 3, 1, 99999, 9];
+
+// The range of the parameter at a place; 0 to 0 beyond the last.
+pub fn range_at(place: usize) -> Range
+    ensures { λ r. ⌜ r ≡ rangeAt place ⌝ }
+{
+    if place < 3 * RECIPES {
+        let kind = place % 3;
+        return Range {
+            low: RECIPE_LOWS[kind],
+            high: RECIPE_HIGHS[kind],
+        };
+    }
+    if place < PARAMETERS {
+        let row = place - 3 * RECIPES;
+        return Range {
+            low: SYSTEM_LOWS[row],
+            high: SYSTEM_HIGHS[row],
+        };
+    }
+    Range { low: 0, high: 0 }
+}
+
+// x is one of low to high.
+pub fn is_between(low: u32, high: u32, x: u32) -> bool
+    ensures { λ b. ⌜ b ≡ between low high x ⌝ }
+{
+    low <= x && x <= high
+}
+
+// The value and the level of the parameter at a place are in their ranges.
+fn parameter_valid(place: usize, value: u32, level: u8) -> bool
+    ensures { λ b. ⌜ b ≡ (within (fieldRange (Field.value place)) value && within (fieldRange (Field.level place)) level) ⌝ }
+{
+    let range = range_at(place);
+    is_between(range.low, range.high, value) && level <= 3
+}
+
+// The batch number after n.
+pub fn next_number(n: u16) -> u16
+    ensures { λ r. ⌜ r ≡ nextNumber n ⌝ }
+{
+    if n < 9999 {
+        return n + 1;
+    }
+    1
+}
+
+// ---- the record
+impl Record {
+    // The fields but the parameters' are in their ranges.
+    fn scalars_valid(self) -> bool
+        ensures { λ b. ⌜ b ≡ allIn self (fieldsFor 0) ⌝ }
+    {
+        if self.address < 1 {
+            return false;
+        }
+        if 99 < self.address {
+            return false;
+        }
+        if 3 < self.access {
+            return false;
+        }
+        if self.recipe < 1 {
+            return false;
+        }
+        if RECIPES < self.recipe as usize {
+            return false;
+        }
+        if 999999 < self.preset {
+            return false;
+        }
+        if 99999999 < self.raw {
+            return false;
+        }
+        if self.number < 1 {
+            return false;
+        }
+        if 9999 < self.number {
+            return false;
+        }
+        true
+    }
+
+    // Each field lies in its own range.
+    pub fn valid(self) -> bool
+        ensures { λ b. ⌜ b ≡ valid self ⌝ }
+    {
+        if !self.scalars_valid() {
+            return false;
+        }
+        let mut i = 0;
+        while i < PARAMETERS {
+            if !parameter_valid(i, self.values[i], self.levels[i]) {
+                return false;
+            }
+            i += 1;
+        }
+        true
+    }
+
+    fn in_phase(self, p: Phase) -> Record
+        ensures { λ r. ⌜ r ≡ put Field.phase (phaseNumber p) self ⌝ }
+    {
+        let values = self.values;
+        let levels = self.levels;
+        Record {
+            address: self.address,
+            access: self.access,
+            phase: p,
+            keypad: self.keypad,
+            flow: self.flow,
+            changed: self.changed,
+            reset: self.reset,
+            powerfail: self.powerfail,
+            recipe: self.recipe,
+            preset: self.preset,
+            raw: self.raw,
+            number: self.number,
+            values: values,
+            levels: levels,
+        }
+    }
+
+    // ---- the panel; a record that is not valid comes back unchanged
+
+    // n pulses of the meter.
+    pub fn pulses(mut self, n: u16) -> Record
+        ensures { λ r. ⌜ r ≡ after (Event.Pulses n) self ⌝ }
+    {
+        if !self.valid() {
+            return self;
+        }
+        if n == 0 {
+            return self;
+        }
+        let phase = self.phase;
+        let preset = self.preset;
+        let sum = self.raw + (n as u32);
+        self.flow = true;
+        match phase {
+            Phase::Idle => self,
+            Phase::Set => self.counted(sum),
+            Phase::Running => {
+                if preset <= sum {
+                    return self.counted(sum).in_phase(Phase::Done);
+                }
+                self.counted(sum)
+            }
+            Phase::Stopped => self.counted(sum),
+            Phase::Done => self.counted(sum),
+        }
+    }
+
+    // The raw total, which wraps.
+    fn counted(mut self, sum: u32) -> Record
+        ensures { λ r. ⌜ r ≡ put Field.raw (sum % 100000000) self ⌝ }
+    {
+        self.raw = sum % 100000000;
+        self
+    }
+
+    // The flow has come to rest.
+    pub fn still(mut self) -> Record
+        ensures { λ r. ⌜ r ≡ after Event.Still self ⌝ }
+    {
+        if !self.valid() {
+            return self;
+        }
+        self.flow = false;
+        self
+    }
+
+    // The keypad is taken: only with no batch under way.
+    pub fn keypad_on(mut self) -> Record
+        ensures { λ r. ⌜ r ≡ after Event.KeypadOn self ⌝ }
+    {
+        if !self.valid() {
+            return self;
+        }
+        let phase = self.phase;
+        match phase {
+            Phase::Idle => {
+                self.keypad = true;
+                self
+            }
+            Phase::Set => self,
+            Phase::Running => self,
+            Phase::Stopped => self,
+            Phase::Done => {
+                self.keypad = true;
+                self
+            }
+        }
+    }
+
+    pub fn keypad_off(mut self) -> Record
+        ensures { λ r. ⌜ r ≡ after Event.KeypadOff self ⌝ }
+    {
+        if !self.valid() {
+            return self;
+        }
+        self.keypad = false;
+        self
+    }
+
+    // The power has come back.
+    pub fn power_back(mut self) -> Record
+        ensures { λ r. ⌜ r ≡ after Event.PowerBack self ⌝ }
+    {
+        if !self.valid() {
+            return self;
+        }
+        let phase = self.phase;
+        self.flow = false;
+        self.powerfail = true;
+        match phase {
+            Phase::Idle => self,
+            Phase::Set => self,
+            Phase::Running => self.in_phase(Phase::Stopped),
+            Phase::Stopped => self,
+            Phase::Done => self,
+        }
+    }
+
+    // The record after any event of the panel.
+    pub fn after(self, event: Event) -> Record
+        ensures { λ r. ⌜ r ≡ after event self ⌝ }
+    {
+        match event {
+            Event::Pulses(n) => self.pulses(n),
+            Event::Still => self.still(),
+            Event::KeypadOn => self.keypad_on(),
+            Event::KeypadOff => self.keypad_off(),
+            Event::PowerBack => self.power_back(),
+        }
+    }
+
+    // ---- the phase changes of the commands
+
+    // SB: a new batch is set up.
+    pub fn set_batch(mut self, preset: u32) -> Record
+        ensures { λ r. ⌜ r ≡ batchSet preset self ⌝ }
+    {
+        self.number = next_number(self.number);
+        self.preset = preset;
+        self.raw = 0;
+        self.reset = true;
+        self.in_phase(Phase::Set)
+    }
+
+    // SA
+    pub fn start(self) -> Record
+        ensures { λ r. ⌜ r ≡ started self ⌝ }
+    {
+        self.in_phase(Phase::Running)
+    }
+
+    // SP
+    pub fn stop(self) -> Record
+        ensures { λ r. ⌜ r ≡ halted self ⌝ }
+    {
+        self.in_phase(Phase::Stopped)
+    }
+
+    // ET
+    pub fn end(self) -> Record
+        ensures { λ r. ⌜ r ≡ ended self ⌝ }
+    {
+        self.in_phase(Phase::Idle)
+    }
+}
