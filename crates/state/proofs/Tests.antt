@@ -1,13 +1,17 @@
 -- Laws of tests and of choices by a test. Assumes nothing.
-use Prim.Native.Nat.{ℕ, zero, suc, _≤_, _<_}
+use Prim.Native.Nat.{ℕ, zero, suc, _+_, _≤_, _<_}
 use mathlib.Core.Bool.{Bool, true, false, _&&_}
 use mathlib.Core.Path.{_≡_, refl, sym, ap, _∙_}
 use native.Mathlib.Nat.{eq-or-lt-of-le}
 use native.Mathlib.Omega.{arith}
 use mathlib.Core.Logic.{_⊎_, inl, inr, ⊎-elim}
+use mathlib.Core.List.{List}
+use native.Mathlib.Numerals.{add-one}
 use lib.Dec.{leb, ltb}
-use borrow.Author.Tests.{le-leb, leb-true, ltb-true, ltb-false}
-use Rattle.state.specs.Test.{pick, between}
+use lib.ListN.{length, drop, getD, drop-of-length-le}
+use lib.Seq.{drop-cons}
+use borrow.Author.Tests.{le-leb, leb-true, ltb-true, ltb-false, eq-eqb, ne-eqb}
+use Rattle.state.specs.Test.{between, member}
 
 pub and-yes : (a b : Bool) → a ≡ true → b ≡ true → (a && b) ≡ true
 and-yes true b p q = q
@@ -58,3 +62,13 @@ holds-below p zero h i l = absurd (omega arith)
 holds-below p (suc n) h i l =
     ⊎-elim (λ (q : i ≡ n). ap p q ∙ and-left (p n) (allBelow p n) h) (λ (q : i < n). holds-below p n (and-right (p n) (allBelow p n) h) i q)
     (eq-or-lt-of-le (omega arith))
+
+-- ---- one of several: the rest of the list from place i on
+pub member-end : (n : ℕ) (s : List ℕ) (i : ℕ) → length s ≤ i → member n (drop i s) ≡ false
+member-end n s i h = ap (member n) (drop-of-length-le s h)
+
+pub member-found : (n : ℕ) (s : List ℕ) (i : ℕ) → i < length s → n ≡ getD s i 0 → member n (drop i s) ≡ true
+member-found n s i h e = ap (member n) (drop-cons s i 0 h) ∙ simp (eq-eqb n (getD s i 0) e)
+
+pub member-turn : (n : ℕ) (s : List ℕ) (i : ℕ) → i < length s → (n ≡ getD s i 0 → ⊥) → member n (drop i s) ≡ member n (drop (i + 1) s)
+member-turn n s i h e = ap (member n) (drop-cons s i 0 h) ∙ simp (ne-eqb n (getD s i 0) e, add-one)

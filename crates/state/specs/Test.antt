@@ -1,7 +1,8 @@
 -- Tests on numbers, and a choice by a test.
 use Prim.Native.Nat.{ℕ}
-use mathlib.Core.Bool.{Bool, true, false, _&&_}
-use lib.Dec.{leb}
+use mathlib.Core.Bool.{Bool, true, false, _&&_, _||_}
+use mathlib.Core.List.{List, [], _∷_}
+use lib.Dec.{leb, eqb}
 
 -- the first if the test holds, and else the second
 abbrev pub pick : {A : Type 0} → Bool → A → A → A
@@ -11,3 +12,8 @@ pick false a b = b
 -- x is one of low to high
 abbrev pub between : ℕ → ℕ → ℕ → Bool
 between low high x = leb low x && leb x high
+
+-- n is one of several numbers
+abbrev pub member : ℕ → List ℕ → Bool
+member n [] = false
+member n (m ∷ ms) = eqb n m || member n ms

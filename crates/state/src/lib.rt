@@ -2,7 +2,7 @@
 ghost use mathlib.Core.Path.{_≡_};
 ghost use mathlib.Core.Bool.{_&&_};
 ghost use Prim.Native.Nat.{_%_};
-ghost use Rattle.state.specs.Test.{between};
+ghost use Rattle.state.specs.Test.{between, member};
 ghost use Rattle.state.specs.Parameter.{codeAt, rangeAt, placeOf};
 ghost use Rattle.state.specs.Field.{Field, put, phaseNumber, fieldRange, fieldsFor};
 ghost use Rattle.state.specs.Valid.{within, allIn, valid};
@@ -64,6 +64,43 @@ pub enum Event {
     KeypadOn,
     KeypadOff,
     PowerBack,
+}
+
+// ---- phases by number, in the order above
+pub const IDLE: u8 = 0;
+
+pub const SET: u8 = 1;
+
+pub const RUNNING: u8 = 2;
+
+pub const STOPPED: u8 = 3;
+
+pub const DONE: u8 = 4;
+
+pub fn phase_number(p: Phase) -> u8
+    ensures { λ n. ⌜ n ≡ phaseNumber p ⌝ }
+{
+    match p {
+        Phase::Idle => IDLE,
+        Phase::Set => SET,
+        Phase::Running => RUNNING,
+        Phase::Stopped => STOPPED,
+        Phase::Done => DONE,
+    }
+}
+
+// n is one of several numbers.
+pub fn is_among(n: u8, several: &[u8]) -> bool
+    ensures { λ b. ⌜ b ≡ member n (now (several .entry)) ⌝ }
+{
+    let mut i = 0;
+    while i < several.len() {
+        if n == several[i] {
+            return true;
+        }
+        i += 1;
+    }
+    false
 }
 
 // ---- parameters

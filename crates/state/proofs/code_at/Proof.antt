@@ -1,3 +1,4 @@
+-- `state::code_at` meets its contract: one law of `Parameters` for each third of the places. Assumes nothing.
 use Rattle.state.proofs.Parameters.{code-given-recipe, code-given-system, code-beyond}
 use borrow.Author.Needs.{needs}
 use Rattle.state.proofs.code_at.Statement.{statement}

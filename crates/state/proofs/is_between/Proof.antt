@@ -1,3 +1,4 @@
+-- `state::is_between` meets its contract: the two orders are the two tests. Assumes nothing.
 use borrow.Author.Tests.{le-leb, lt-leb}
 use Rattle.state.proofs.is_between.Statement.{statement}
 use Rattle.state.proofs.is_between.Tie as tie

@@ -1,3 +1,4 @@
+-- `state::next_number` meets its contract: the test of the code is the test of the definition. Assumes nothing.
 use borrow.Author.Tests.{lt-ltb, le-ltb}
 use borrow.Author.Needs.{needs}
 use Rattle.state.proofs.next_number.Statement.{statement}

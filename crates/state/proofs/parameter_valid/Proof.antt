@@ -1,3 +1,4 @@
+-- `state::parameter_valid` meets its contract: the range is the one of the place, and no level is below 0. Assumes nothing.
 use lib.Dec.{leb·zero}
 use borrow.Author.Needs.{needs}
 use Rattle.state.proofs.parameter_valid.Statement.{statement}

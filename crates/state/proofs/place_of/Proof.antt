@@ -1,3 +1,4 @@
+-- `state::place_of` meets its contract: one law over the recipe for the first eight arms, one for the system, one for the gaps. Assumes nothing.
 use native.Mathlib.Omega.{arith}
 use Rattle.state.proofs.Parameters.{place-given-recipe, place-given-system, place-not-given}
 use borrow.Author.Needs.{needs}

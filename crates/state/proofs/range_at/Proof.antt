@@ -1,3 +1,4 @@
+-- `state::range_at` meets its contract: the tables are the ranges of the listed parameters. Assumes nothing.
 use Rattle.state.proofs.Parameters.{range-given-recipe, range-given-system, range-beyond}
 use borrow.Author.Needs.{needs}
 use Rattle.state.proofs.range_at.Statement.{statement}

@@ -1,3 +1,4 @@
+-- `state::Record::after` meets its contract: each arm is the event that was matched. Assumes nothing.
 use borrow.Author.Needs.{needs}
 use Rattle.state.proofs.Record.after.Statement.{statement}
 use Rattle.state.proofs.Record.after.Tie as tie

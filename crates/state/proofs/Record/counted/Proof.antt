@@ -1,3 +1,4 @@
+-- `state::Record::counted` meets its contract: the store is the write of that field. Assumes nothing.
 use mathlib.Core.Path.{refl}
 use Rattle.state.specs.Field.{put}
 use Rattle.state.proofs.Record.counted.Statement.{statement}

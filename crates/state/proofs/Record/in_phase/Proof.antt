@@ -1,3 +1,4 @@
+-- `state::Record::in_phase` meets its contract: a phase is known by its number. Assumes nothing.
 use Rattle.state.specs.Field.{put}
 use Rattle.state.proofs.Fields.{phase-back}
 use Rattle.state.proofs.Record.in_phase.Statement.{statement}

@@ -1,3 +1,4 @@
+-- `state::Record::keypad_off` meets its contract: unchanged if not valid, else the flag off. Assumes nothing.
 use mathlib.Core.Path.{refl}
 use Rattle.state.specs.Field.{put}
 use Rattle.state.proofs.Events.{after-invalid, after-valid}

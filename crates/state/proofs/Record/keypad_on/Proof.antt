@@ -1,3 +1,4 @@
+-- `state::Record::keypad_on` meets its contract: one law where the phase lets the keypad be taken, one where not. Assumes nothing.
 use Rattle.state.proofs.Events.{after-invalid, keypad-taken, keypad-kept}
 use Rattle.state.specs.Field.{put}
 use borrow.Author.Needs.{needs}

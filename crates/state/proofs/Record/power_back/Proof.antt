@@ -1,3 +1,4 @@
+-- `state::Record::power_back` meets its contract: one law for Running, one for the other phases. Assumes nothing.
 use Rattle.state.proofs.Events.{after-invalid, power-kept, power-stopped}
 use Rattle.state.specs.Field.{put}
 use borrow.Author.Needs.{needs}

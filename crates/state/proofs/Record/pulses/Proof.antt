@@ -1,3 +1,4 @@
+-- `state::Record::pulses` meets its contract: one law for each way through, and validity keeps the sum in range. Assumes nothing.
 use native.Mathlib.Omega.{arith}
 use Rattle.state.proofs.Events.{raw-limit}
 use Rattle.state.proofs.Events.{after-invalid, pulses-none, pulses-idle, pulses-counted, pulses-short, pulses-done}

@@ -1,3 +1,4 @@
+-- `state::Record::scalars_valid` meets its contract: each test is one end of a range, and all together are the ranges. Assumes nothing.
 use mathlib.Core.Path.{sym}
 use native.Mathlib.Omega.{arith}
 use Rattle.state.proofs.Validity.{scalars-yes, scalars-no}

@@ -1,3 +1,4 @@
+-- `state::Record::set_batch` meets its contract: the stores are the writes of SB in another order. Assumes nothing.
 use Rattle.state.proofs.Events.{batch-set}
 use Rattle.state.specs.Field.{put}
 use borrow.Author.Needs.{needs}

@@ -1,3 +1,4 @@
+-- `state::Record::valid` meets its contract: the loop has passed the parameters below i. Assumes nothing.
 use Prim.Native.Nat.{_≤_, _-_}
 use mathlib.Core.Path.{_≡_, refl}
 use mathlib.Core.Bool.{true}
