@@ -16,7 +16,7 @@ use Rattle.state.specs.Test.{pick, between}
 use Rattle.state.specs.Parameter.{recipes, range, parameterCount}
 use Rattle.state.specs.Field.{Field, address, access, phase, keypad, flow, changed, reset, powerfail, recipe, preset, raw, number, value, level, get, put, putAt, is, position, fieldRange, fieldsFor, phaseNumber, phaseOf, flagNumber, flagOf, off, on}
 use Rattle.state.specs.Valid.{within}
-use Rattle.state.proofs.Tests.{and-left, and-right, between-high, holds-below}
+use Rattle.state.proofs.Tests.{and-no, and-left, and-right, between-high, holds-below}
 
 -- a phase and a flag are known by their numbers
 pub phase-back : (p : Phase) → phaseOf (phaseNumber p) ≡ p
@@ -91,6 +91,64 @@ module _ (first n : ℕ) (f : Field) (xs : List ℕ) where
   put-at-own : (j : ℕ) → position f ≡ first + 2 * j → putAt first f n xs ≡ set xs j n
   put-at-own j e =
       simp (le-leb first (position f) (omega arith), eq-eqb ((position f - first) % 2) 0 (omega arith)) (ap (λ (k : ℕ). set xs k n) (omega arith))
+
+  put-at-kept : (leb first (position f) ≡ true → (position f - first) % 2 ≡ 0 → ⊥) → putAt first f n xs ≡ xs
+  put-at-kept h =
+      simp (and-no (leb first (position f)) (eqb ((position f - first) % 2) 0) (λ a b. h a (eqb-true ((position f - first) % 2) 0 b)))
+
+-- the record with other lists
+abbrev pub withLists : List ℕ → List ℕ → Record → Record
+withLists vs ls r =
+    record {
+      address = r .address;
+      access = r .access;
+      phase = r .phase;
+      keypad = r .keypad;
+      flow = r .flow;
+      changed = r .changed;
+      reset = r .reset;
+      powerfail = r .powerfail;
+      recipe = r .recipe;
+      preset = r .preset;
+      raw = r .raw;
+      number = r .number;
+      values = vs;
+      levels = ls;
+    }
+
+-- ---- a parameter's field as a store to one of the two lists
+put-parameter : (f : Field) (n : ℕ) (r : Record) → 12 ≤ position f → withLists (putAt 12 f n (r .values)) (putAt 13 f n (r .levels)) r ≡ put f n r
+unfolding put
+put-parameter f n r h =
+    let not-at : (k : ℕ) → k < 12 → eqb (position f) k ≡ false = λ k l. ne-eqb (position f) k (λ e. omega arith) in
+    simp (
+      not-at 0 (omega arith),
+      not-at 1 (omega arith),
+      not-at 2 (omega arith),
+      not-at 3 (omega arith),
+      not-at 4 (omega arith),
+      not-at 5 (omega arith),
+      not-at 6 (omega arith),
+      not-at 7 (omega arith),
+      not-at 8 (omega arith),
+      not-at 9 (omega arith),
+      not-at 10 (omega arith),
+      not-at 11 (omega arith),
+    )
+
+pub put-value : (i n : ℕ) (r : Record) → withLists (set (r .values) i n) (r .levels) r ≡ put (value i) n r
+put-value i n r =
+    ap (λ (vs : List ℕ). withLists vs (r .levels) r) (sym (put-at-own 12 n (value i) (r .values) i refl))
+    ∙ (ap (λ (ls : List ℕ). withLists (putAt 12 (value i) n (r .values)) ls r)
+    (sym (put-at-kept 13 n (value i) (r .levels) (λ a e. let l : 13 ≤ 12 + 2 * i = leb-true 13 (12 + 2 * i) a in omega arith)))
+    ∙ put-parameter (value i) n r (omega arith))
+
+pub put-level : (i n : ℕ) (r : Record) → withLists (r .values) (set (r .levels) i n) r ≡ put (level i) n r
+put-level i n r =
+    ap (λ (ls : List ℕ). withLists (r .values) ls r) (sym (put-at-own 13 n (level i) (r .levels) i refl))
+    ∙ (ap (λ (vs : List ℕ). withLists vs (putAt 13 (level i) n (r .levels)) r)
+    (sym (put-at-kept 12 n (level i) (r .values) (λ a e. omega arith)))
+    ∙ put-parameter (level i) n r (omega arith))
 
 -- ---- reading another field
 pub get-put-other : (f g : Field) (n : ℕ) (r : Record) → (position f ≡ position g → ⊥) → get g (put f n r) ≡ get g r

@@ -1,0 +1,4 @@
+pub mod Parsing
+pub mod Deciding
+pub mod Applying
+pub mod Agree

@@ -1,0 +1,68 @@
+-- `command::last_number` meets its contract, one law of `Parsing` for each return; what passed the tests is at most eight digits.
+-- Assumes nothing.
+use native.Mathlib.Omega.{arith}
+use borrow.Author.Needs.{needs}
+use Rattle.command.proofs.Parsing.{last-reading, digits-yes}
+use Rattle.command.proofs.last_number.Statement.{statement}
+use Rattle.command.proofs.last_number.Tie as tie
+
+returns : tie.Need-returns
+returns c = search last-reading
+
+returns-2 : tie.Need-returns-2
+returns-2 c = search last-reading
+
+returns-3 : tie.Need-returns-3
+returns-3 c = search last-reading
+
+shared-slice-read-if4 : tie.Need-shared-slice-read-if4
+shared-slice-read-if4 c = search needs
+
+returns-4 : tie.Need-returns-4
+returns-4 c = search last-reading
+
+sub-digits : tie.Need-sub-digits
+sub-digits c = search needs
+
+part-digits-start : tie.Need-part-digits-start
+part-digits-start c = search needs
+
+part-digits-end : tie.Need-part-digits-end
+part-digits-end c = search needs
+
+returns-5 : tie.Need-returns-5
+returns-5 c = search last-reading
+
+returns-6 : tie.Need-returns-6
+returns-6 c = search last-reading
+
+all-digits-requires : tie.Need-all-digits-requires
+all-digits-requires c κs = search needs
+
+returns-7 : tie.Need-returns-7
+returns-7 c = search last-reading
+
+value-requires : tie.Need-value-requires
+value-requires c κs = (omega arith, digits-yes _ _ (c .before .all-digits .ensures) (c .if7 .left))
+
+returns-8 : tie.Need-returns-8
+returns-8 c = search last-reading
+
+pub last-number-spec : {M : Type 1} → statement M
+last-number-spec =
+    tie.close
+    (tie.spec
+    returns
+    returns-2
+    returns-3
+    shared-slice-read-if4
+    returns-4
+    sub-digits
+    part-digits-start
+    part-digits-end
+    returns-5
+    returns-6
+    all-digits-requires
+    returns-7
+    value-requires
+    returns-8)

@@ -1,0 +1,7 @@
+pub mod Word
+pub mod Status
+pub mod Commands
+pub mod Refusals
+pub mod Answer
+pub mod Bench
+pub mod Request

@@ -1,0 +1,571 @@
+// A request's text as a value, what refuses it, and what it changes.
+use state::DONE;
+use state::IDLE;
+use state::PARAMETERS;
+use state::Place;
+use state::RECIPES;
+use state::RUNNING;
+use state::Record;
+use state::SET;
+use state::STOPPED;
+use state::is_among;
+use state::is_between;
+use state::place_of;
+ghost use mathlib.Core.Path.{_≡_};
+ghost use mathlib.Core.Bool.{true, false};
+ghost use mathlib.Core.List.{[], _∷_};
+ghost use Prim.Native.Nat.{_≤_, _<_};
+ghost use lib.ListN.{length};
+ghost use Rattle.state.specs.Parameter.{placeOf};
+ghost use Rattle.state.specs.Field.{Field, put};
+ghost use Rattle.command.specs.Word.{allDigits, valueOf, equal};
+ghost use Rattle.command.specs.Commands.{nothing, placeNumber, applied};
+ghost use Rattle.command.specs.Answer.{accepted};
+ghost use Rattle.command.specs.Request.{numbersOf, whole, volumeOf, flagOf, requestOf, decisionAs, byItself, guarded, verdictFor, valueVerdict, levelVerdict, keypadGuard, phaseGuard, valueChanges, changes, valueServed, servedOf};
+
+// A request with its arguments as numbers; a parameter is given by its code.
+pub enum Request {
+    // A code that is not in the table.
+    Unknown,
+    // Arguments that are not of the code's form.
+    Malformed,
+    // One of the five requests that are known and not served.
+    NotServed,
+    // EQ
+    Status,
+    // RS
+    Codes,
+    // TN
+    Number,
+    // RR
+    Recipe,
+    // RC
+    Composition,
+    // RT R
+    Raw,
+    // PV
+    Value(u16),
+    // XV
+    Level(u16),
+    // PC
+    SetValue(u16, u32),
+    // XC
+    SetLevel(u16, u32),
+    // NR
+    SelectRecipe(u32),
+    // SB
+    SetBatch(u32),
+    // SA
+    Start,
+    // SP
+    Stop,
+    // ET
+    End,
+    // RE BD
+    ClearReset,
+    // RE PC
+    ClearChanged,
+}
+
+// Why a request is refused.
+pub enum Refusal {
+    // NO00
+    UnknownCode,
+    // NO01
+    Malformed,
+    // NO02
+    Keypad,
+    // NO04
+    UnknownParameter,
+    // NO05
+    Phase,
+    // NO06
+    Range,
+    // NO07
+    Level,
+    // NO08
+    NotServed,
+    // NO30
+    UnknownRecipe,
+}
+
+pub enum Decision {
+    Accepted,
+    Refused(Refusal),
+}
+
+// A parameter code and a number, 0 where the form has none.
+enum Numbers {
+    Read(u16, u32),
+    Malformed,
+}
+
+const SPACE: u8 = 0x20;
+
+fn wide(x: u8) -> u32
+    ensures { λ r. ⌜ (r ≡ x) × (r < 256) ⌝ }
+{
+    x as u32
+}
+
+// ---- reading a text
+
+// Every byte is a digit.
+fn all_digits(s: &[u8]) -> bool
+    ensures { λ b. ⌜ b ≡ allDigits (now (s .entry)) ⌝ }
+{
+    let mut i = 0;
+    while i < s.len() {
+        if s[i] < b'0' {
+            return false;
+        }
+        if b'9' < s[i] {
+            return false;
+        }
+        i += 1;
+    }
+    true
+}
+
+// The number that at most eight digits are.
+fn value(s: &[u8]) -> u32
+    requires { ⌜ (length (now s) ≤ 8) × (allDigits (now s) ≡ true) ⌝ }
+    ensures { λ n. ⌜ n ≡ valueOf (now (s .entry)) ⌝ }
+{
+    let mut n: u32 = 0;
+    let mut i = 0;
+    while i < s.len() {
+        n = n * 10 + (wide(s[i]) - 0x30);
+        i += 1;
+    }
+    n
+}
+
+// The bytes are the word.
+fn is_word(s: &[u8], word: &[u8]) -> bool
+    ensures { λ b. ⌜ b ≡ equal (now (s .entry)) (now (word .entry)) ⌝ }
+{
+    if s.len() != word.len() {
+        return false;
+    }
+    let mut i = 0;
+    while i < s.len() {
+        if s[i] != word[i] {
+            return false;
+        }
+        i += 1;
+    }
+    true
+}
+
+// A number of least to most digits behind a space, and nothing else; with a most of 0 nothing at all.
+fn last_number(s: &[u8], least: usize, most: usize) -> Numbers
+    requires { ⌜ most ≤ 8 ⌝ }
+    ensures { λ r. ⌜ r ≡ numbersOf false least most (now (s .entry)) ⌝ }
+{
+    if most == 0 {
+        if s.len() == 0 {
+            return Numbers::Read(0, 0);
+        }
+        return Numbers::Malformed;
+    }
+    if s.len() == 0 {
+        return Numbers::Malformed;
+    }
+    if s[0] != SPACE {
+        return Numbers::Malformed;
+    }
+    let digits = &s[1..];
+    if digits.len() < least {
+        return Numbers::Malformed;
+    }
+    if most < digits.len() {
+        return Numbers::Malformed;
+    }
+    if !all_digits(digits) {
+        return Numbers::Malformed;
+    }
+    Numbers::Read(0, value(digits))
+}
+
+// A parameter code of three digits behind a space, and then as above.
+fn parameter_and(s: &[u8], least: usize, most: usize) -> Numbers
+    requires { ⌜ most ≤ 8 ⌝ }
+    ensures { λ r. ⌜ r ≡ numbersOf true least most (now (s .entry)) ⌝ }
+{
+    if s.len() < 4 {
+        return Numbers::Malformed;
+    }
+    if s[0] != SPACE {
+        return Numbers::Malformed;
+    }
+    if !all_digits(&s[1..4]) {
+        return Numbers::Malformed;
+    }
+    let parameter = value(&s[1..4]) as u16;
+    let Numbers::Read(_, number) = last_number(&s[4..], least, most) else {
+        return Numbers::Malformed;
+    };
+    Numbers::Read(parameter, number)
+}
+
+// The request if nothing follows the code.
+fn alone(s: &[u8], request: Request) -> Request
+    ensures { λ r. ⌜ r ≡ whole nothing (now (s .entry)) request ⌝ }
+{
+    if s.len() == 0 {
+        return request;
+    }
+    Request::Malformed
+}
+
+// RT: the raw volume is served, four others are not.
+fn volume(s: &[u8]) -> Request
+    ensures { λ r. ⌜ r ≡ volumeOf (now (s .entry)) ⌝ }
+{
+    if is_word(s, b" R") {
+        return Request::Raw;
+    }
+    if is_word(s, b" G") {
+        return Request::NotServed;
+    }
+    if is_word(s, b" N") {
+        return Request::NotServed;
+    }
+    if is_word(s, b" P") {
+        return Request::NotServed;
+    }
+    if is_word(s, b" M") {
+        return Request::NotServed;
+    }
+    Request::Malformed
+}
+
+// RE: two flags are cleared by the host, the power fail flag is not.
+fn flag(s: &[u8]) -> Request
+    ensures { λ r. ⌜ r ≡ flagOf (now (s .entry)) ⌝ }
+{
+    if is_word(s, b" BD") {
+        return Request::ClearReset;
+    }
+    if is_word(s, b" PC") {
+        return Request::ClearChanged;
+    }
+    if is_word(s, b" PF") {
+        return Request::NotServed;
+    }
+    Request::Malformed
+}
+
+// The request that a text is.
+pub fn parse(text: &[u8]) -> Request
+    ensures { λ r. ⌜ r ≡ requestOf (now (text .entry)) ⌝ }
+{
+    if text.len() < 4 {
+        return Request::Unknown;
+    }
+    let code = wide(text[2]) * 256 + wide(text[3]);
+    let rest = &text[4..];
+    match code {
+        0x4551 => alone(rest, Request::Status),
+        0x5253 => alone(rest, Request::Codes),
+        0x544e => alone(rest, Request::Number),
+        0x5252 => alone(rest, Request::Recipe),
+        0x5243 => alone(rest, Request::Composition),
+        0x5254 => volume(rest),
+        0x5056 => {
+            let Numbers::Read(parameter, _) = parameter_and(rest, 0, 0) else {
+                return Request::Malformed;
+            };
+            Request::Value(parameter)
+        }
+        0x5856 => {
+            let Numbers::Read(parameter, _) = parameter_and(rest, 0, 0) else {
+                return Request::Malformed;
+            };
+            Request::Level(parameter)
+        }
+        0x5043 => {
+            let Numbers::Read(parameter, value) = parameter_and(rest, 1, 8) else {
+                return Request::Malformed;
+            };
+            Request::SetValue(parameter, value)
+        }
+        0x5843 => {
+            let Numbers::Read(parameter, level) = parameter_and(rest, 1, 1) else {
+                return Request::Malformed;
+            };
+            Request::SetLevel(parameter, level)
+        }
+        0x4e52 => {
+            let Numbers::Read(_, recipe) = last_number(rest, 2, 2) else {
+                return Request::Malformed;
+            };
+            Request::SelectRecipe(recipe)
+        }
+        0x5342 => {
+            let Numbers::Read(_, preset) = last_number(rest, 1, 6) else {
+                return Request::Malformed;
+            };
+            Request::SetBatch(preset)
+        }
+        0x5341 => alone(rest, Request::Start),
+        0x5350 => alone(rest, Request::Stop),
+        0x4554 => alone(rest, Request::End),
+        0x5245 => flag(rest),
+        _ => Request::Unknown,
+    }
+}
+
+// ---- deciding a request
+
+fn by_phase(r: Record, phases: &[u8]) -> Decision
+    ensures { λ d. ⌜ decisionAs d ≡ guarded (phaseGuard (now (phases .entry)) ∷ []) r ⌝ }
+{
+    let phase = r.phase;
+    if !is_among(state::phase_number(phase), phases) {
+        return Decision::Refused(Refusal::Phase);
+    }
+    Decision::Accepted
+}
+
+fn by_keypad_and_phase(r: Record, phases: &[u8]) -> Decision
+    ensures { λ d. ⌜ decisionAs d ≡ guarded (keypadGuard ∷ phaseGuard (now (phases .entry)) ∷ []) r ⌝ }
+{
+    if r.keypad {
+        return Decision::Refused(Refusal::Keypad);
+    }
+    by_phase(r, phases)
+}
+
+fn by_keypad(r: Record) -> Decision
+    ensures { λ d. ⌜ decisionAs d ≡ guarded (keypadGuard ∷ []) r ⌝ }
+{
+    if r.keypad {
+        return Decision::Refused(Refusal::Keypad);
+    }
+    Decision::Accepted
+}
+
+// PC by place and value: what refuses it once its form is known. A place beyond the last is not in the list.
+fn decide_value(r: Record, place: usize, value: u32) -> Decision
+    ensures { λ d. ⌜ decisionAs d ≡ valueVerdict place value r ⌝ }
+{
+    if PARAMETERS <= place {
+        return Decision::Refused(Refusal::UnknownParameter);
+    }
+    let range = state::range_at(place);
+    if !is_between(range.low, range.high, value) {
+        return Decision::Refused(Refusal::Range);
+    }
+    if r.keypad {
+        return Decision::Refused(Refusal::Keypad);
+    }
+    if r.access < r.levels[place] {
+        return Decision::Refused(Refusal::Level);
+    }
+    by_phase(r, &[IDLE, DONE])
+}
+
+// XC by place and level.
+fn decide_level(r: Record, place: usize, level: u32) -> Decision
+    ensures { λ d. ⌜ decisionAs d ≡ levelVerdict place level r ⌝ }
+{
+    if PARAMETERS <= place {
+        return Decision::Refused(Refusal::UnknownParameter);
+    }
+    if 3 < level {
+        return Decision::Refused(Refusal::Range);
+    }
+    if r.keypad {
+        return Decision::Refused(Refusal::Keypad);
+    }
+    if r.access < r.levels[place] {
+        return Decision::Refused(Refusal::Level);
+    }
+    if (r.access as u32) < level {
+        return Decision::Refused(Refusal::Level);
+    }
+    Decision::Accepted
+}
+
+// NR
+fn decide_recipe(r: Record, recipe: u32) -> Decision
+    ensures { λ d. ⌜ decisionAs d ≡ verdictFor (Request.SelectRecipe recipe) r ⌝ }
+{
+    if !is_between(1, RECIPES as u32, recipe) {
+        return Decision::Refused(Refusal::UnknownRecipe);
+    }
+    by_keypad_and_phase(r, &[IDLE, DONE])
+}
+
+// SB
+fn decide_batch(r: Record, preset: u32) -> Decision
+    ensures { λ d. ⌜ decisionAs d ≡ verdictFor (Request.SetBatch preset) r ⌝ }
+{
+    if preset == 0 {
+        return Decision::Refused(Refusal::Range);
+    }
+    by_keypad_and_phase(r, &[IDLE, DONE])
+}
+
+// A read of a parameter.
+fn decide_read(code: u16) -> Decision
+    ensures { λ d. ⌜ decisionAs d ≡ byItself (Request.Value code) ⌝ }
+{
+    let Place::At(_) = place_of(code) else {
+        return Decision::Refused(Refusal::UnknownParameter);
+    };
+    Decision::Accepted
+}
+
+// What refuses a request, or that it is accepted.
+fn decide(r: Record, request: Request) -> Decision
+    ensures { λ d. ⌜ decisionAs d ≡ verdictFor request r ⌝ }
+{
+    match request {
+        Request::Unknown => Decision::Refused(Refusal::UnknownCode),
+        Request::Malformed => Decision::Refused(Refusal::Malformed),
+        Request::NotServed => Decision::Refused(Refusal::NotServed),
+        Request::Status => Decision::Accepted,
+        Request::Codes => Decision::Accepted,
+        Request::Number => Decision::Accepted,
+        Request::Recipe => Decision::Accepted,
+        Request::Composition => Decision::Accepted,
+        Request::Raw => Decision::Accepted,
+        Request::Value(code) => decide_read(code),
+        Request::Level(code) => decide_read(code),
+        Request::SetValue(code, value) => decide_value(r, place(code), value),
+        Request::SetLevel(code, level) => decide_level(r, place(code), level),
+        Request::SelectRecipe(recipe) => decide_recipe(r, recipe),
+        Request::SetBatch(preset) => decide_batch(r, preset),
+        Request::Start => by_keypad_and_phase(r, &[SET, STOPPED]),
+        Request::Stop => by_phase(r, &[RUNNING]),
+        Request::End => by_keypad_and_phase(r, &[SET, STOPPED, DONE]),
+        Request::ClearReset => by_keypad(r),
+        Request::ClearChanged => by_keypad(r),
+    }
+}
+
+// The place of a parameter code; beyond the last if it has none.
+pub fn place(code: u16) -> usize
+    ensures { λ i. ⌜ i ≡ placeNumber (placeOf code) ⌝ }
+{
+    let Place::At(i) = place_of(code) else {
+        return PARAMETERS;
+    };
+    i
+}
+
+// ---- what an accepted request changes
+
+fn with_value(mut r: Record, place: usize, value: u32) -> Record
+    ensures { λ s. ⌜ s ≡ applied (valueChanges place value) r ⌝ }
+{
+    r.changed = true;
+    if place < PARAMETERS {
+        r.values[place] = value;
+        return r;
+    }
+    r
+}
+
+fn with_level(mut r: Record, place: usize, level: u32) -> Record
+    requires { ⌜ level ≤ 3 ⌝ }
+    ensures { λ s. ⌜ s ≡ put (Field.level place) level r ⌝ }
+{
+    if place < PARAMETERS {
+        r.levels[place] = level as u8;
+        return r;
+    }
+    r
+}
+
+fn with_recipe(mut r: Record, recipe: u32) -> Record
+    requires { ⌜ recipe ≤ 99 ⌝ }
+    ensures { λ s. ⌜ s ≡ put Field.recipe recipe r ⌝ }
+{
+    r.recipe = recipe as u8;
+    r
+}
+
+// The record after a request that was accepted.
+fn apply(mut r: Record, request: Request) -> Record
+    requires { ⌜ verdictFor request r ≡ accepted ⌝ }
+    ensures { λ s. ⌜ s ≡ applied (changes request r) r ⌝ }
+{
+    match request {
+        Request::Unknown => r,
+        Request::Malformed => r,
+        Request::NotServed => r,
+        Request::Status => r,
+        Request::Codes => r,
+        Request::Number => r,
+        Request::Recipe => r,
+        Request::Composition => r,
+        Request::Raw => r,
+        Request::Value(_) => r,
+        Request::Level(_) => r,
+        Request::SetValue(code, value) => with_value(r, place(code), value),
+        Request::SetLevel(code, level) => with_level(r, place(code), level),
+        Request::SelectRecipe(recipe) => with_recipe(r, recipe),
+        Request::SetBatch(preset) => r.set_batch(preset),
+        Request::Start => r.start(),
+        Request::Stop => r.stop(),
+        Request::End => r.end(),
+        Request::ClearReset => {
+            r.reset = false;
+            r
+        }
+        Request::ClearChanged => {
+            r.changed = false;
+            r
+        }
+    }
+}
+
+// ---- a request served: the decision, and the record afterwards
+pub struct Served {
+    pub decision: Decision,
+    pub record: Record,
+}
+
+// PC by place and value. A refusal hands the record back as it was.
+pub fn set_value(r: Record, place: usize, value: u32) -> Served
+    ensures { λ s. ⌜ (decisionAs (s .decision), s .record) ≡ valueServed place value r ⌝ }
+{
+    let decision = decide_value(r, place, value);
+    match decision {
+        Decision::Accepted => {
+            let record = with_value(r, place, value);
+            Served {
+                decision: Decision::Accepted,
+                record: record,
+            }
+        }
+        Decision::Refused(refusal) => Served {
+            decision: Decision::Refused(refusal),
+            record: r,
+        },
+    }
+}
+
+// Any request. A refusal hands the record back as it was.
+pub fn serve(r: Record, request: Request) -> Served
+    ensures { λ s. ⌜ (decisionAs (s .decision), s .record) ≡ servedOf request r ⌝ }
+{
+    let decision = decide(r, request);
+    match decision {
+        Decision::Accepted => {
+            let record = apply(r, request);
+            Served {
+                decision: Decision::Accepted,
+                record: record,
+            }
+        }
+        Decision::Refused(refusal) => Served {
+            decision: Decision::Refused(refusal),
+            record: r,
+        },
+    }
+}
