@@ -52,15 +52,15 @@ module _ (p i n : ℕ) (r s : Record) (e : i ≡ placeFor p) where
   level-applied w = w ∙ ap (λ (k : ℕ). put (level k) n r) e
 
 -- what was accepted is in range
-first-passed : (a b : Verdict) → andThen a b ≡ accepted → a ≡ accepted
+pub first-passed : (a b : Verdict) → andThen a b ≡ accepted → a ≡ accepted
 first-passed (NO n) b e = e
 first-passed accepted b e = refl
 
-second-passed : (a b : Verdict) → andThen a b ≡ accepted → b ≡ accepted
+pub second-passed : (a b : Verdict) → andThen a b ≡ accepted → b ≡ accepted
 second-passed (NO n) b e = let z : _≡_ {A = ℕ} 0 1 = cc in absurd (omega arith)
 second-passed accepted b e = e
 
-test-passed : (b : Bool) (n : ℕ) → refusedUnless b n ≡ accepted → b ≡ true
+pub test-passed : (b : Bool) (n : ℕ) → refusedUnless b n ≡ accepted → b ≡ true
 test-passed true n e = refl
 test-passed false n e = let z : _≡_ {A = ℕ} 0 1 = cc in absurd (omega arith)
 

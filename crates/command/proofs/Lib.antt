@@ -2,3 +2,5 @@ pub mod Parsing
 pub mod Deciding
 pub mod Applying
 pub mod Agree
+pub mod Tables
+pub mod Fits

@@ -311,7 +311,7 @@ pub ruleset last-reading = (last-none, last-extra, last-missing, last-space, las
 -- ---- `parameter_and`
 
 -- digits, behind those that make a, make less than a + 1 does with as many zeros
-value-below : (xs : List ℕ) (a : ℕ) → allDigits xs ≡ true → valueFrom a xs < (a + 1) * 10 ^ length xs
+pub value-below : (xs : List ℕ) (a : ℕ) → allDigits xs ≡ true → valueFrom a xs < (a + 1) * 10 ^ length xs
 unfolding valueFrom
 value-below [] a h = omega arith
 value-below (x ∷ xs) a h =

@@ -527,45 +527,45 @@ fn apply(mut r: Record, request: Request) -> Record
 // ---- a request served: the decision, and the record afterwards
 pub struct Served {
     pub decision: Decision,
-    pub record: Record,
+    pub after: Record,
 }
 
 // PC by place and value. A refusal hands the record back as it was.
 pub fn set_value(r: Record, place: usize, value: u32) -> Served
-    ensures { λ s. ⌜ (decisionAs (s .decision), s .record) ≡ valueServed place value r ⌝ }
+    ensures { λ s. ⌜ (decisionAs (s .decision), s .after) ≡ valueServed place value r ⌝ }
 {
     let decision = decide_value(r, place, value);
     match decision {
         Decision::Accepted => {
-            let record = with_value(r, place, value);
+            let after = with_value(r, place, value);
             Served {
                 decision: Decision::Accepted,
-                record: record,
+                after: after,
             }
         }
         Decision::Refused(refusal) => Served {
             decision: Decision::Refused(refusal),
-            record: r,
+            after: r,
         },
     }
 }
 
 // Any request. A refusal hands the record back as it was.
 pub fn serve(r: Record, request: Request) -> Served
-    ensures { λ s. ⌜ (decisionAs (s .decision), s .record) ≡ servedOf request r ⌝ }
+    ensures { λ s. ⌜ (decisionAs (s .decision), s .after) ≡ servedOf request r ⌝ }
 {
     let decision = decide(r, request);
     match decision {
         Decision::Accepted => {
-            let record = apply(r, request);
+            let after = apply(r, request);
             Served {
                 decision: Decision::Accepted,
-                record: record,
+                after: after,
             }
         }
         Decision::Refused(refusal) => Served {
             decision: Decision::Refused(refusal),
-            record: r,
+            after: r,
         },
     }
 }

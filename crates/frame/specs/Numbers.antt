@@ -19,6 +19,13 @@ pub data Answer : Type 0 where
   accepted : ℕ → Answer
   unit : ℕ → ℕ → Answer
 
+-- the length that goes with an answer; 0 for a refusal or a silence
+abbrev pub lengthIn : Answer → ℕ
+lengthIn (H n) = 0
+lengthIn (S n) = 0
+lengthIn (accepted n) = n
+lengthIn (unit a n) = n
+
 abbrev pub silenceNumber : Silence → ℕ
 silenceNumber silence.InvalidRecord = 1
 silenceNumber silence.ShortReplyBuffer = 2

@@ -4,7 +4,7 @@ ghost use Prim.Native.Nat.{_+_, _≤_};
 ghost use lib.ListN.{length, take, drop};
 ghost use Rattle.frame.specs.Frame.{between, xorFrom, allText, frameOf, tailOf, withinLimits, marksRight, checkRight, namesUnit};
 ghost use Rattle.frame.specs.Answer.{over, buildOf, locateOf, readOf, addressOf};
-ghost use Rattle.frame.specs.Numbers.{builtAs, locatedAs, readAs, addressedAs};
+ghost use Rattle.frame.specs.Numbers.{lengthIn, builtAs, locatedAs, readAs, addressedAs};
 
 // The two kinds of link.
 pub enum Kind {
@@ -68,6 +68,20 @@ pub enum Addressed {
     Silent(Silence),
     // The unit's address, and the text's length; the text starts at the second byte.
     Unit(u8, usize),
+}
+
+impl Built {
+    // The frame's length; 0 for a refusal.
+    pub fn length(self) -> usize
+        ensures { λ n. ⌜ n ≡ lengthIn (builtAs self) ⌝ }
+    {
+        match self {
+            Built::ShortBuffer => 0,
+            Built::TextLength => 0,
+            Built::TextByte => 0,
+            Built::Frame(n) => n,
+        }
+    }
 }
 
 const STX: u8 = 0x02;

@@ -36,7 +36,7 @@ flag-number zero h = refl
 flag-number (suc zero) h = refl
 flag-number (suc (suc n)) h = absurd (omega arith)
 
-phase-number : (n : ℕ) → n ≤ 4 → phaseNumber (phaseOf n) ≡ n
+pub phase-number : (n : ℕ) → n ≤ 4 → phaseNumber (phaseOf n) ≡ n
 unfolding phaseOf
 phase-number n h = eqb-true _ _ (holds-below (λ (m : ℕ). eqb (phaseNumber (phaseOf m)) m) 5 refl n (omega arith))
 

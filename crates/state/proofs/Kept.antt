@@ -137,7 +137,7 @@ module _ (r : Record) (v : valid r ≡ true) where
   unfolding after
   after-kept e = simp v (happened-kept e)
 
-  next-in : within (fieldRange number) (nextNumber (r .number)) ≡ true
+  pub next-in : within (fieldRange number) (nextNumber (r .number)) ≡ true
   next-in = go (ltb (r .number) 9999) refl
     where
       go : (b : Bool) → ltb (r .number) 9999 ≡ b → within (fieldRange number) (pick b (r .number + 1) 1) ≡ true
