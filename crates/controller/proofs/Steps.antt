@@ -1,0 +1,161 @@
+-- One law for each return of `call` and of what answers a text. Assumes nothing.
+use Prim.Native.Nat.{ℕ, suc, _+_, _-_, _≤_, _<_}
+use mathlib.Core.Bool.{Bool, true, false, not}
+use mathlib.Core.Path.{_≡_, refl, sym, ap, _∙_}
+use mathlib.Core.List.{List, [], _∷_, _++_}
+use native.Mathlib.Omega.{arith}
+use lib.Dec.{eqb, leb}
+use lib.ListN.{length, take, drop, getD, length-take, length-drop}
+use borrow.Rule.Slice.PartMut.{putMid}
+use borrow.Author.Tests.{le-leb, lt-leb, eq-eqb, ne-eqb, not-true, not-false}
+use Rattle.state.specs.declared.Record.{Record}
+use Rattle.state.specs.Field.{address, get}
+use Rattle.state.specs.Valid.{valid}
+use Rattle.frame.specs.declared.Kind.{Kind}
+use Rattle.frame.specs.declared.Silence.{Silence}
+use Rattle.frame.specs.declared.Silence.the-variants as silence
+use Rattle.frame.specs.declared.Built.{Built}
+use Rattle.frame.specs.declared.Addressed.{Addressed}
+use Rattle.frame.specs.declared.Addressed.the-variants as addressee
+use Rattle.frame.specs.Frame.{allText, namesUnit, addressIn, frameOf, textIn, withinLimits, marksRight, checkRight}
+use Rattle.frame.specs.Numbers.{Answer, H, S, accepted, unit, silenceNumber, builtAs, addressedAs, lengthIn}
+use Rattle.frame.specs.Answer.{unless, over, buildOf, locateOf, addressed, addressOf}
+use Rattle.frame.proofs.Laws.{Sizes, addressed-named, found-text, found-sizes, framed-built, frame-length, over-length, over-held, over-over, part-back}
+use Rattle.command.specs.declared.Request.{Request}
+use Rattle.command.specs.declared.Served.{Served}
+use Rattle.command.specs.Word.{digits}
+use Rattle.command.specs.Answer.{Verdict, replyText, recordAfter}
+use Rattle.command.specs.Request.{decisionAs, requestOf, verdictFor, servedOf, recordTo}
+use Rattle.command.proofs.Agree.{reply-by-steps, record-by-steps}
+use Rattle.reply.specs.Reply.{textFor, writtenOf}
+use Rattle.reply.proofs.Laws.{verdict-answers, text-legal}
+use Rattle.controller.specs.declared.Called.{Called}
+use Rattle.controller.specs.declared.Answer.the-variants as answer
+use Rattle.controller.specs.Call.{Outcome, silent, replied, callOf, outcomeAs, silentAs}
+
+-- ---- the reply to a text
+
+-- the steps write the reply's text
+pub text-by-steps : (t : List ℕ) (r : Record) → textFor (verdictFor (requestOf t) r) (requestOf t) r ≡ replyText t r
+unfolding textFor replyText
+text-by-steps t r = ap (λ (xs : List ℕ). digits 2 (r .address) ++ xs) (reply-by-steps t r)
+
+-- a text laid from the second byte on, and closed
+closed : (k : Kind) (x o ys b : List ℕ) (n : ℕ) (y : Answer) → 64 ≤ length o → 4 ≤ length x → length x ≤ 60 → allText x ≡ true
+    → n ≡ length x → ys ≡ over x (take (length o - 1) (drop 1 o))
+    → (y, b) ≡ buildOf k (take n (drop 1 (putMid 1 (length o - 1) o ys))) (putMid 1 (length o - 1) o ys)
+    → (y ≡ accepted (length (frameOf k x))) × (b ≡ over (frameOf k x) o)
+closed k x o ys b n y room low high legal size laid built =
+    let held : List ℕ = over (getD o 0 0 ∷ x) o in
+    let back : putMid 1 (length o - 1) o ys ≡ held = part-back x o ys (omega arith) laid in
+    let text : take n (drop 1 held) ≡ x = over-held x o n (getD o 0 0) (sym size) in
+    let same : length held ≡ length o = over-length (getD o 0 0 ∷ x) o (omega arith) in
+    let longer : length (getD o 0 0 ∷ x) ≤ length (frameOf k x) = omega (arith, frame-length k x) in
+    let made : buildOf k x held ≡ (accepted (length (frameOf k x)), over (frameOf k x) held) =
+    framed-built k x held (over (frameOf k x) held) (length (frameOf k x)) (record { room = omega arith; low = low; high = high; text = legal; size = refl; left = refl }) in
+    let all : _≡_ {A = Answer × List ℕ} (y, b) (accepted (length (frameOf k x)), over (frameOf k x) held) =
+    built ∙ (ap (λ (l : List ℕ). buildOf k (take n (drop 1 l)) l) back ∙ (ap (λ (l : List ℕ). buildOf k l held) text ∙ made)) in
+    (ap (λ (p : Answer × List ℕ). p .0) all, ap (λ (p : Answer × List ℕ). p .1) all ∙ over-over (frameOf k x) (getD o 0 0 ∷ x) o longer)
+
+-- what `answered` returns
+pub text-answered : (k : Kind) (t o ys b : List ℕ) (r : Record) (q : Request) (s : Served) (n m : ℕ) (f : Built) → 64 ≤ length o
+    → q ≡ requestOf t → (decisionAs (s .decision), s .after) ≡ servedOf q r
+    → (n, ys) ≡ writtenOf (decisionAs (s .decision)) q r (take (length o - 1) (drop 1 o))
+    → (builtAs f, b) ≡ buildOf k (take n (drop 1 (putMid 1 (length o - 1) o ys))) (putMid 1 (length o - 1) o ys)
+    → m ≡ lengthIn (builtAs f) → outcomeAs (answer.Reply m) (s .after) b ≡ replied k t r o
+unfolding servedOf writtenOf
+text-answered k t o ys b r q s n m f room e serve write build size =
+    let v : Verdict = verdictFor (requestOf t) r in
+    let x : List ℕ = textFor v (requestOf t) r in
+    let decided : decisionAs (s .decision) ≡ v = ap (λ (p : Verdict × Record). p .0) serve ∙ ap (λ (y : Request). verdictFor y r) e in
+    let record-is : s .after ≡ recordAfter t r =
+    ap (λ (p : Verdict × Record). p .1) serve ∙ (ap (λ (y : Request). recordTo (verdictFor y r) y r) e ∙ record-by-steps t r) in
+    let legal = text-legal v (requestOf t) r (verdict-answers (requestOf t) r) in
+    let long : 60 ≤ length (take (length o - 1) (drop 1 o)) = simp (length-take, length-drop) (omega arith) in
+    let wrote : _≡_ {A = ℕ × List ℕ} (n, ys) (length x, over x (take (length o - 1) (drop 1 o))) =
+    write ∙ (ap (λ (w : Verdict). writtenOf w q r (take (length o - 1) (drop 1 o))) decided
+    ∙ (ap (λ (y : Request). writtenOf v y r (take (length o - 1) (drop 1 o))) e ∙ simp (le-leb 60 (length (take (length o - 1) (drop 1 o))) long))) in
+    let c = closed k x o ys b n (builtAs f) room (legal .low) (let h = legal .high in omega arith) (legal .bytes)
+    (ap (λ (p : ℕ × List ℕ). p .0) wrote) (ap (λ (p : ℕ × List ℕ). p .1) wrote) build in
+    let reported : m ≡ length (frameOf k (replyText t r)) = size ∙ (ap lengthIn (c .0) ∙ ap (λ (l : List ℕ). length (frameOf k l)) (text-by-steps t r)) in
+    let left : b ≡ over (frameOf k (replyText t r)) o = c .1 ∙ ap (λ (l : List ℕ). over (frameOf k l) o) (text-by-steps t r) in
+    simp (record-is, reported, left)
+
+-- ---- the silences
+module _ (k : Kind) (r : Record) (q o : List ℕ) where
+  pub silent-record : (b : Bool) (c : Called) → b ≡ valid r → not b ≡ true → c ≡ silentAs silence.InvalidRecord r → outcomeAs (c .answer) (c .after) o ≡ callOf k r q o
+  unfolding callOf
+  silent-record b c e n w = ap (λ (x : Called). outcomeAs (x .answer) (x .after) o) w ∙ simp (sym e ∙ not-true b n)
+
+  module _ (b : Bool) (v : b ≡ valid r) (n : not b ≡ false) where
+    valid-so : valid r ≡ true
+    valid-so = sym v ∙ not-false b n
+
+    pub silent-room : (c : Called) → length o < 64 → c ≡ silentAs silence.ShortReplyBuffer r → outcomeAs (c .answer) (c .after) o ≡ callOf k r q o
+    unfolding callOf
+    silent-room c h w = ap (λ (x : Called). outcomeAs (x .answer) (x .after) o) w ∙ simp (valid-so, lt-leb 64 (length o) h)
+
+    module _ (room : 64 ≤ length o) (a : Addressed) (e : addressedAs a ≡ addressOf k q) where
+      -- S3 to S7 as the frame's reader names them
+      passed-on : (x : Answer) (y : Outcome) → Outcome
+      passed-on (S m) y = silent m r o
+      passed-on (H m) y = y
+      passed-on (accepted m) y = y
+      passed-on (unit d m) y = y
+
+      last : (b₇ : Bool) (d m : ℕ) (z : Outcome) → unless b₇ (silent 7 r o) z ≡ passed-on (unless b₇ (S 7) (unit d m)) z
+      unfolding passed-on
+      last true d m z = refl
+      last false d m z = refl
+
+      chain : (b₃ b₄ b₅ b₆ : Bool) (z : Outcome)
+          → unless b₃ (silent 3 r o) (unless b₄ (silent 4 r o) (unless b₅ (silent 5 r o) (unless b₆ (silent 6 r o) (unless (namesUnit (textIn k q)) (silent 7 r o) z))))
+          ≡ passed-on (addressed (unless b₃ (S 3) (unless b₄ (S 4) (unless b₅ (S 5) (unless b₆ (S 6) (accepted (length (textIn k q))))))) (textIn k q)) z
+      unfolding passed-on
+      chain false b₄ b₅ b₆ z = refl
+      chain true false b₅ b₆ z = refl
+      chain true true false b₆ z = refl
+      chain true true true false z = refl
+      chain true true true true z = last (namesUnit (textIn k q)) (addressIn (textIn k q)) (length (textIn k q)) z
+
+      -- a text that is for a unit
+      for-unit : Outcome
+      for-unit = unless (eqb (addressIn (textIn k q)) (r .address)) (silent 8 r o) (replied k (textIn k q) r o)
+
+      by-address : callOf k r q o ≡ passed-on (addressedAs a) for-unit
+      unfolding callOf addressOf locateOf for-unit
+      by-address =
+          simp (valid-so, le-leb 64 (length o) room)
+          (chain (withinLimits k (length q)) (marksRight k q) (checkRight k q) (allText (textIn k q)) for-unit
+          ∙ ap (λ (x : Answer). passed-on x for-unit) (sym e))
+
+      pub silent-frame : (c : Called) (s : Silence) → a ≡ addressee.Silent s → c ≡ silentAs s r → outcomeAs (c .answer) (c .after) o ≡ callOf k r q o
+      unfolding passed-on
+      silent-frame c s z w =
+          ap (λ (x : Called). outcomeAs (x .answer) (x .after) o) w
+          ∙ sym (by-address ∙ ap (λ (x : Addressed). passed-on (addressedAs x) for-unit) z)
+
+      module _ (d m : ℕ) (z : a ≡ addressee.Unit d m) where
+        for-this : callOf k r q o ≡ for-unit
+        unfolding passed-on
+        for-this = by-address ∙ ap (λ (x : Addressed). passed-on (addressedAs x) for-unit) z
+
+        pub silent-other : (c : Called) → (d ≡ r .address → ⊥) → c ≡ silentAs silence.OtherAddress r → outcomeAs (c .answer) (c .after) o ≡ callOf k r q o
+        unfolding for-unit
+        silent-other c h w =
+            let i : addressIn (textIn k q) ≡ d = addressed-named k q a d m e z .number in
+            ap (λ (x : Called). outcomeAs (x .answer) (x .after) o) w ∙ sym (for-this ∙ simp (ne-eqb (addressIn (textIn k q)) (r .address) (λ f. h (sym i ∙ f))))
+
+        pub answered-call : (x : Outcome) → d ≡ r .address → x ≡ replied k (take (m + 1 - 1) (drop 1 q)) r o → x ≡ callOf k r q o
+        unfolding for-unit
+        answered-call x h w =
+            let f = addressed-named k q a d m e z in
+            let j : m + 1 - 1 ≡ m = omega arith in
+            let t : take (m + 1 - 1) (drop 1 q) ≡ textIn k q = ap (λ (i : ℕ). take i (drop 1 q)) j ∙ found-text k q m (f .text) in
+            w ∙ (ap (λ (y : List ℕ). replied k y r o) t ∙ sym (for-this ∙ simp (eq-eqb (addressIn (textIn k q)) (r .address) (f .number ∙ h))))
+
+-- the text lies within the request
+pub text-within : (k : Kind) (q : List ℕ) (a : Addressed) (d m : ℕ) → addressedAs a ≡ addressOf k q → a ≡ addressee.Unit d m → Sizes q m
+text-within k q a d m e z = found-sizes k q m (addressed-named k q a d m e z .text)
+
+pub ruleset calling = (silent-record, silent-room, silent-frame, silent-other, answered-call)
