@@ -12,10 +12,10 @@ use borrow.Author.Tests.{eq-eqb, ne-eqb, eqb-true, eqb-false, le-leb, lt-leb, lt
 use Rattle.state.specs.declared.Record.{Record}
 use Rattle.state.specs.declared.Place.{Place}
 use Rattle.state.specs.declared.Place.the-variants.{At, Nothing}
-use Rattle.state.specs.Test.{pick, between, member}
+use Rattle.base.specs.Test.{pick, between, member}
 use Rattle.state.specs.Parameter.{recipes, parameterCount, placeOf, rangeAt}
 use Rattle.state.specs.Valid.{within}
-use Rattle.state.proofs.Tests.{below-or-not}
+use Rattle.base.proofs.Tests.{below-or-not}
 use Rattle.command.specs.declared.Request.{Request}
 use Rattle.command.specs.Word.{space, valueOf, equal, oneOf}
 use Rattle.command.specs.Commands.{EQ, RS, TN, RR, RC, RT, PV, XV, PC, XC, NR, SB, SA, SP, ET, RE, codeIn, Form, numbers, words, nothing, parameter, parameterAnd, aNumber, formed, rowOf, commands, Change, applied, behindSpace, BD, PC-word, R-word, word, argument, placeIn, parameterIn, numberIn, secondIn}

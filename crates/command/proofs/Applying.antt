@@ -9,10 +9,10 @@ use lib.ListN.{length, set}
 use lib.Seq.{set-out}
 use borrow.Author.Tests.{leb-true}
 use Rattle.state.specs.declared.Record.{Record}
-use Rattle.state.specs.Test.{pick, between}
+use Rattle.base.specs.Test.{pick, between}
 use Rattle.state.specs.Parameter.{recipes, parameterCount}
 use Rattle.state.specs.Field.{changed, value, level, access, get, put, on}
-use Rattle.state.proofs.Tests.{between-high}
+use Rattle.base.proofs.Tests.{between-high}
 use Rattle.state.proofs.Fields.{withLists, put-value, put-level}
 use Rattle.command.specs.declared.Request.{Request}
 use Rattle.command.specs.declared.Request.the-variants.{SetValue, SetLevel, SelectRecipe}

@@ -11,7 +11,7 @@ use Rattle.state.specs.declared.Record.{Record}
 use Rattle.state.specs.declared.Range.{Range}
 use Rattle.state.specs.declared.Place.{Place}
 use Rattle.state.specs.declared.Place.the-variants.{At, Nothing}
-use Rattle.state.specs.Test.{pick, between, member}
+use Rattle.base.specs.Test.{pick, between, member}
 use Rattle.state.specs.Parameter.{recipes, parameterCount, placeOf, rangeAt}
 use Rattle.state.specs.Field.{Field, access, get, phaseNumber}
 use Rattle.state.specs.Valid.{within}

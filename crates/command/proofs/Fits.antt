@@ -9,12 +9,12 @@ use lib.Dec.{eqb, leb, ltb}
 use lib.ListN.{length, drop}
 use borrow.Author.Tests.{leb-true, ltb-true, ltb-false}
 use Rattle.state.specs.declared.Record.{Record}
-use Rattle.state.specs.Test.{pick, between}
+use Rattle.base.specs.Test.{pick, between}
 use Rattle.state.specs.Parameter.{recipes, parameterCount, rangeAt}
 use Rattle.state.specs.Field.{number, fieldRange}
 use Rattle.state.specs.Valid.{within, valid}
 use Rattle.state.specs.Event.{nextNumber}
-use Rattle.state.proofs.Tests.{and-left, and-right, between-yes, between-high}
+use Rattle.base.proofs.Tests.{and-left, and-right, between-yes, between-high}
 use Rattle.state.proofs.Kept.{next-in}
 use Rattle.command.specs.declared.Request.{Request}
 use Rattle.command.specs.declared.Request.the-variants.{Unknown, Malformed, NotServed, Status, Codes, Number, Recipe, Composition, Raw, Value, Level, SetValue, SetLevel, SelectRecipe, SetBatch, Start, Stop, End, ClearReset, ClearChanged}

@@ -11,8 +11,8 @@ use lib.Dec.{eqb}
 use lib.ListN.{length, take, drop, getD, length-append, length-drop, length-take, drop-of-length-le, List·getD-eq-default}
 use lib.Seq.{take-all, length-take-le, drop-drop}
 use borrow.Author.Tests.{le-leb, lt-leb, eq-eqb, ne-eqb, eqb-true, not-true, not-false}
-use Rattle.state.specs.Test.{pick, between, member}
-use Rattle.state.proofs.Tests.{and-yes, and-left, and-right, between-yes, between-low, between-high}
+use Rattle.base.specs.Test.{pick, between, member}
+use Rattle.base.proofs.Tests.{and-yes, and-left, and-right, between-yes, between-low, between-high}
 use Rattle.frame.specs.Frame.{isDigit}
 use Rattle.frame.proofs.Laws.{next}
 use Rattle.command.specs.declared.Request.{Request}

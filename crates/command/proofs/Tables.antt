@@ -10,7 +10,7 @@ use lib.Dec.{eqb}
 use lib.ListN.{length, getD}
 use borrow.Author.Tests.{eqb-true, eqb-false, eq-eqb}
 use Rattle.state.specs.declared.Record.{Record}
-use Rattle.state.specs.Test.{pick}
+use Rattle.base.specs.Test.{pick}
 use Rattle.state.specs.Parameter.{parameterCount}
 use Rattle.state.specs.Field.{Field, get, put, position, fieldRange}
 use Rattle.state.specs.Valid.{within, valid}

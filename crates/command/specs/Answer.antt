@@ -3,7 +3,7 @@ use Prim.Native.Nat.{ℕ}
 use mathlib.Core.Bool.{Bool, true, false}
 use mathlib.Core.List.{List, [], _∷_, _++_}
 use Rattle.state.specs.declared.Record.{Record}
-use Rattle.state.specs.Test.{pick}
+use Rattle.base.specs.Test.{pick}
 use Rattle.state.specs.Field.{address, get}
 use Rattle.command.specs.Word.{digits}
 use Rattle.command.specs.Commands.{Command, commands, codeIn, rowOf, applied, word}

@@ -7,7 +7,7 @@ use lib.ListN.{length, getD, take, drop}
 use Rattle.state.specs.declared.Record.{Record}
 use Rattle.state.specs.declared.Place.{Place}
 use Rattle.state.specs.declared.Place.the-variants.{At, Nothing}
-use Rattle.state.specs.Test.{pick, between}
+use Rattle.base.specs.Test.{pick, between}
 use Rattle.state.specs.Parameter.{parameterCount, placeOf}
 use Rattle.state.specs.Field.{Field, address, phase, changed, reset, recipe, preset, raw, number, value, level, get, put, on, off}
 use Rattle.state.specs.Event.{idle, set, running, stopped, nextNumber}

@@ -7,7 +7,7 @@ use lib.ListN.{drop}
 use Rattle.state.specs.declared.Record.{Record}
 use Rattle.state.specs.declared.Place.{Place}
 use Rattle.state.specs.declared.Place.the-variants.{At, Nothing}
-use Rattle.state.specs.Test.{pick, between, member}
+use Rattle.base.specs.Test.{pick, between, member}
 use Rattle.state.specs.Parameter.{recipes, placeOf, rangeAt}
 use Rattle.state.specs.Field.{Field, access, phase, keypad, level, get, on}
 use Rattle.state.specs.Valid.{within}

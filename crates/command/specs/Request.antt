@@ -8,7 +8,7 @@ use lib.ListN.{take, drop}
 use Rattle.state.specs.declared.Record.{Record}
 use Rattle.state.specs.declared.Place.{Place}
 use Rattle.state.specs.declared.Place.the-variants.{At, Nothing}
-use Rattle.state.specs.Test.{pick, between, member}
+use Rattle.base.specs.Test.{pick, between, member}
 use Rattle.state.specs.Parameter.{recipes, parameterCount, placeOf, rangeAt}
 use Rattle.state.specs.Field.{Field, access, phase, keypad, changed, reset, recipe, preset, raw, number, value, level, get, put, on, off}
 use Rattle.state.specs.Valid.{within}

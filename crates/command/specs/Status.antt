@@ -4,7 +4,7 @@ use mathlib.Core.Bool.{Bool, true, false, _||_}
 use mathlib.Core.List.{List, [], _∷_, _++_, map}
 use lib.Dec.{eqb}
 use Rattle.state.specs.declared.Record.{Record}
-use Rattle.state.specs.Test.{pick, member}
+use Rattle.base.specs.Test.{pick, member}
 use Rattle.state.specs.Field.{Field, phase, keypad, flow, changed, reset, powerfail, get, on, flagNumber}
 use Rattle.state.specs.Event.{idle, set, running, stopped, done}
 use Rattle.command.specs.Word.{space}

@@ -1,4 +1,7 @@
 // A request's text as a value, what refuses it, and what it changes.
+use base::is_among;
+use base::is_between;
+use base::wide;
 use state::DONE;
 use state::IDLE;
 use state::PARAMETERS;
@@ -8,8 +11,6 @@ use state::RUNNING;
 use state::Record;
 use state::SET;
 use state::STOPPED;
-use state::is_among;
-use state::is_between;
 use state::place_of;
 ghost use mathlib.Core.Path.{_≡_};
 ghost use mathlib.Core.Bool.{true, false};
@@ -101,12 +102,6 @@ enum Numbers {
 }
 
 const SPACE: u8 = 0x20;
-
-fn wide(x: u8) -> u32
-    ensures { λ r. ⌜ (r ≡ x) × (r < 256) ⌝ }
-{
-    x as u32
-}
 
 // ---- reading a text
 

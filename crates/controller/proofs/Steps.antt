@@ -19,7 +19,9 @@ use Rattle.frame.specs.declared.Addressed.{Addressed}
 use Rattle.frame.specs.declared.Addressed.the-variants as addressee
 use Rattle.frame.specs.Frame.{allText, namesUnit, addressIn, frameOf, textIn, withinLimits, marksRight, checkRight}
 use Rattle.frame.specs.Numbers.{Answer, H, S, accepted, unit, silenceNumber, builtAs, addressedAs, lengthIn}
-use Rattle.frame.specs.Answer.{unless, over, buildOf, locateOf, addressed, addressOf}
+use Rattle.frame.specs.Answer.{buildOf, locateOf, addressed, addressOf}
+use Rattle.base.specs.Test.{unless}
+use Rattle.base.specs.Lists.{over}
 use Rattle.frame.proofs.Laws.{Sizes, addressed-named, found-text, found-sizes, framed-built, frame-length, over-length, over-held, over-over, part-back}
 use Rattle.command.specs.declared.Request.{Request}
 use Rattle.command.specs.declared.Served.{Served}

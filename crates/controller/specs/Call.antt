@@ -10,7 +10,8 @@ use Rattle.state.specs.Valid.{valid}
 use Rattle.frame.specs.declared.Kind.{Kind}
 use Rattle.frame.specs.Frame.{allText, namesUnit, addressIn, frameOf, textIn, withinLimits, marksRight, checkRight}
 use Rattle.frame.specs.Numbers.{silenceNumber}
-use Rattle.frame.specs.Answer.{unless, over}
+use Rattle.base.specs.Test.{unless}
+use Rattle.base.specs.Lists.{over}
 use Rattle.command.specs.Answer.{replyText, recordAfter}
 use Rattle.frame.specs.declared.Silence.{Silence}
 use Rattle.controller.specs.declared.Called.{Called}

@@ -19,9 +19,11 @@ use Rattle.frame.specs.declared.Located.{Located}
 use Rattle.frame.specs.declared.Located.the-variants as located
 use Rattle.frame.specs.declared.Addressed.{Addressed}
 use Rattle.frame.specs.declared.Addressed.the-variants as addressee
-use Rattle.frame.specs.Frame.{stx, etx, pad, star, cr, lf, between, isDigit, isCapital, allText, namesUnit, addressIn, frameOf, tailOf, textIn, withinLimits, fromEnd, marksRight, checkRight}
+use Rattle.frame.specs.Frame.{stx, etx, pad, star, cr, lf, isDigit, isCapital, allText, namesUnit, addressIn, frameOf, tailOf, textIn, withinLimits, fromEnd, marksRight, checkRight}
+use Rattle.base.specs.Test.{between, unless}
 use Rattle.frame.specs.Numbers.{Answer, H, S, accepted, unit, builtAs, locatedAs, addressedAs}
-use Rattle.frame.specs.Answer.{unless, over, copied, addressed, buildOf, locateOf, readOf, addressOf}
+use Rattle.frame.specs.Answer.{copied, addressed, buildOf, locateOf, readOf, addressOf}
+use Rattle.base.specs.Lists.{over}
 
 -- ---- the bytes from i on: one, and those after it
 pub next : (s : List ℕ) (i : ℕ) → i < length s → drop i s ≡ getD s i 0 ∷ drop (i + 1) s

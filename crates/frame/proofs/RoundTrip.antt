@@ -14,7 +14,8 @@ use Rattle.frame.specs.declared.Kind.{Kind}
 use Rattle.frame.specs.declared.Kind.the-variants.{Minicomputer, Terminal}
 use Rattle.frame.specs.Frame.{etx, pad, cr, lf, allText, xorFrom, checkOf, frameOf, tailOf, textIn, withinLimits, fromEnd, marksRight, checkRight}
 use Rattle.frame.specs.Numbers.{accepted}
-use Rattle.frame.specs.Answer.{over, buildOf, locateOf, readOf}
+use Rattle.frame.specs.Answer.{buildOf, locateOf, readOf}
+use Rattle.base.specs.Lists.{over}
 use Rattle.frame.proofs.Laws.{next, over-take, frame-length, firstMark, endMark, lastMark, marks-form, marks-told, limits-low, limits-within, tail-low, Found, found, found-sizes, found-located, Framed, framed, framed-built, Taken, taken, taken-read}
 
 -- ---- the form of a frame

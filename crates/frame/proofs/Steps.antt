@@ -20,7 +20,8 @@ use Rattle.frame.specs.declared.Located.{Located}
 use Rattle.frame.specs.declared.Located.the-variants as located
 use Rattle.frame.specs.Frame.{stx, etx, pad, star, cr, lf, isText, isDigit, isCapital, allText, namesUnit, addressIn, xorFrom, checkOf, frameOf, tailOf, textIn, withinLimits, fromEnd, marksRight, checkRight}
 use Rattle.frame.specs.Numbers.{H, S, accepted, unit, silenceNumber, locatedAs}
-use Rattle.frame.specs.Answer.{over, buildOf, locateOf, readOf, addressOf}
+use Rattle.frame.specs.Answer.{buildOf, locateOf, readOf, addressOf}
+use Rattle.base.specs.Lists.{over}
 use Rattle.frame.proofs.Laws.{next, over-put, over-over, held-length, held-byte, over-held, part-back, frame-length, firstMark, endMark, lastMark, marks-form, limits-low, tail-low, text-length, Digits, named-digits, Sizes, found-sizes, found-text, located-found, framed-built, taken-read, named-addressed}
 
 -- ---- the loop of `check`

@@ -1,21 +1,13 @@
 -- Document 01, "Frames": what building, reading and addressing answer, and what the lent buffer then holds.
 use Prim.Native.Nat.{ℕ}
-use mathlib.Core.List.{List, _++_}
-use mathlib.Core.Bool.{Bool, true, false}
+use mathlib.Core.List.{List}
 use lib.Dec.{leb}
-use lib.ListN.{length, drop}
+use lib.ListN.{length}
+use Rattle.base.specs.Test.{unless, between}
+use Rattle.base.specs.Lists.{over}
 use Rattle.frame.specs.declared.Kind.{Kind}
-use Rattle.frame.specs.Frame.{between, allText, namesUnit, addressIn, frameOf, textIn, withinLimits, marksRight, checkRight}
+use Rattle.frame.specs.Frame.{allText, namesUnit, addressIn, frameOf, textIn, withinLimits, marksRight, checkRight}
 use Rattle.frame.specs.Numbers.{Answer, H, S, accepted, unit}
-
--- the first unless the test holds, and else the second: a chain of these is "in this order"
-abbrev pub unless : {A : Type 0} → Bool → A → A → A
-unless true a b = b
-unless false a b = a
-
--- the first list laid over the start of the second, "the rest of which stays"
-unfoldable pub over : List ℕ → List ℕ → List ℕ
-over f o = f ++ drop (length f) o
 
 -- ---- "build a frame from any text of legal length and bytes, at the start of a lent buffer"
 -- "H1 buffer under 64, H2 length, H3 byte; buffer untouched"

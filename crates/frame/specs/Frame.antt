@@ -2,7 +2,8 @@
 use Prim.Native.Nat.{ℕ, _+_, _-_, _*_}
 use mathlib.Core.List.{List, [], _∷_, _++_}
 use mathlib.Core.Bool.{Bool, true, _&&_}
-use lib.Dec.{leb, eqb}
+use lib.Dec.{eqb}
+use Rattle.base.specs.Test.{between}
 use lib.ListN.{length, drop, take, getD}
 use lib.Bits.{bitXor}
 use Rattle.frame.specs.declared.Kind.{Kind}
@@ -28,10 +29,6 @@ abbrev pub lf : ℕ
 lf = 0x0a
 
 -- ---- the text: "4 to 60 bytes, each 0x20..0x7E"
-
--- x is one of lo to hi
-abbrev pub between : ℕ → ℕ → ℕ → Bool
-between lo hi x = leb lo x && leb x hi
 
 abbrev pub isText : ℕ → Bool
 isText x = between 0x20 0x7e x

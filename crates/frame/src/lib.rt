@@ -2,8 +2,10 @@
 ghost use mathlib.Core.Path.{_≡_};
 ghost use Prim.Native.Nat.{_+_, _≤_};
 ghost use lib.ListN.{length, take, drop};
-ghost use Rattle.frame.specs.Frame.{between, xorFrom, allText, frameOf, tailOf, withinLimits, marksRight, checkRight, namesUnit};
-ghost use Rattle.frame.specs.Answer.{over, buildOf, locateOf, readOf, addressOf};
+ghost use Rattle.frame.specs.Frame.{xorFrom, allText, frameOf, tailOf, withinLimits, marksRight, checkRight, namesUnit};
+ghost use Rattle.base.specs.Test.{between};
+ghost use Rattle.frame.specs.Answer.{buildOf, locateOf, readOf, addressOf};
+ghost use Rattle.base.specs.Lists.{over};
 ghost use Rattle.frame.specs.Numbers.{lengthIn, builtAs, locatedAs, readAs, addressedAs};
 
 // The two kinds of link.

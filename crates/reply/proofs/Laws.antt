@@ -14,15 +14,15 @@ use borrow.Author.Tests.{le-leb, lt-leb, eqb-true}
 use Rattle.state.specs.declared.Place.{Place}
 use Rattle.state.specs.declared.Place.the-variants.{At}
 use Rattle.state.specs.declared.Record.{Record}
-use Rattle.state.specs.Test.{pick, member}
+use Rattle.base.specs.Test.{pick, member}
 use Rattle.state.specs.Parameter.{parameterCount, placeOf}
 use Rattle.state.specs.Field.{keypad, flow, changed, reset, powerfail, recipe, raw, number, value, level, get, flagNumber, phaseNumber}
 use Rattle.state.specs.Event.{running, stopped, done}
 use Rattle.state.specs.Event as event
-use Rattle.state.proofs.Tests.{and-yes, and-left, and-right, below-or-not, between-yes}
+use Rattle.base.proofs.Tests.{and-yes, and-left, and-right, below-or-not, between-yes}
 use Rattle.state.proofs.Fields.{flag-back}
 use Rattle.frame.specs.Frame.{isText, allText}
-use Rattle.frame.specs.Answer.{over}
+use Rattle.base.specs.Lists.{over}
 use Rattle.command.specs.declared.Request.{Request}
 use Rattle.command.specs.declared.Request.the-variants.{Unknown, Malformed, NotServed, Status, Codes, Number, Recipe, Composition, Raw, Value, Level, SetValue, SetLevel, SelectRecipe, SetBatch, Start, Stop, End, ClearReset, ClearChanged}
 use Rattle.command.specs.declared.Decision.{Decision}

@@ -5,9 +5,9 @@ use mathlib.Core.List.{List, [], _∷_, _++_}
 use lib.Dec.{leb}
 use lib.ListN.{length, take, drop}
 use Rattle.state.specs.declared.Record.{Record}
-use Rattle.state.specs.Test.{pick}
+use Rattle.base.specs.Test.{pick, unless}
 use Rattle.state.specs.Field.{address, get}
-use Rattle.frame.specs.Answer.{unless, over}
+use Rattle.base.specs.Lists.{over}
 use Rattle.command.specs.declared.Request.{Request}
 use Rattle.command.specs.Word.{space, digits}
 use Rattle.command.specs.Answer.{Verdict}

@@ -1,4 +1,5 @@
 // The text of a reply, written into the lent part of the reply buffer.
+use base::is_among;
 use command::Decision;
 use command::Refusal;
 use command::Request;
@@ -9,12 +10,11 @@ use state::RUNNING;
 use state::Record;
 use state::SET;
 use state::STOPPED;
-use state::is_among;
 ghost use mathlib.Core.Path.{_≡_};
 ghost use mathlib.Core.List.{List, [], _∷_, _++_};
 ghost use Prim.Native.Nat.{_+_, _*_, _≤_};
 ghost use lib.ListN.{length, take, drop};
-ghost use Rattle.state.specs.Test.{pick};
+ghost use Rattle.base.specs.Test.{pick};
 ghost use Rattle.state.specs.Parameter.{placeOf};
 ghost use Rattle.state.specs.Field.{Field, get, flagNumber};
 ghost use Rattle.command.specs.Word.{digits};

@@ -10,7 +10,7 @@ use Rattle.state.specs.declared.Phase.the-variants.{Idle, Set, Running, 
 use Rattle.state.specs.declared.Event.{Event}
 use Rattle.state.specs.declared.Event.the-variants.{Pulses, Still, KeypadOn, KeypadOff, PowerBack}
 use Rattle.state.specs.declared.Record.{Record}
-use Rattle.state.specs.Test.{pick, between}
+use Rattle.base.specs.Test.{pick, between}
 use Rattle.state.specs.Field.{Field, phase, keypad, flow, reset, powerfail, preset, raw, number, get, put, phaseNumber, on, off}
 use Rattle.state.specs.Valid.{valid}
 use Rattle.state.specs.Event.{idle, set, running, stopped, done, inPhase, pulses, powerBack, keypadOn, happened, after, nextNumber, batchSet}

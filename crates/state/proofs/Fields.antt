@@ -12,11 +12,11 @@ use borrow.Author.Tests.{eq-eqb, ne-eqb, eqb-true, le-leb, leb-true, le-ltb}
 use Rattle.state.specs.declared.Phase.{Phase}
 use Rattle.state.specs.declared.Phase.the-variants.{Idle, Set, Running, Stopped, Done}
 use Rattle.state.specs.declared.Record.{Record}
-use Rattle.state.specs.Test.{pick, between}
+use Rattle.base.specs.Test.{pick, between}
 use Rattle.state.specs.Parameter.{recipes, range, parameterCount}
 use Rattle.state.specs.Field.{Field, address, access, phase, keypad, flow, changed, reset, powerfail, recipe, preset, raw, number, value, level, get, put, putAt, is, position, fieldRange, fieldsFor, phaseNumber, phaseOf, flagNumber, flagOf, off, on}
 use Rattle.state.specs.Valid.{within}
-use Rattle.state.proofs.Tests.{and-no, and-left, and-right, between-high, holds-below}
+use Rattle.base.proofs.Tests.{and-no, and-left, and-right, between-high, holds-below}
 
 -- a phase and a flag are known by their numbers
 pub phase-back : (p : Phase) → phaseOf (phaseNumber p) ≡ p

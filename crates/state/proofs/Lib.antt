@@ -1,4 +1,3 @@
-pub mod Tests
 pub mod Parameters
 pub mod Validity
 pub mod Fields

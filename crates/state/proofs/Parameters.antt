@@ -14,9 +14,9 @@ use borrow.Author.Tests.{eq-eqb, ne-eqb, eqb-true}
 use Rattle.state.specs.declared.Range.{Range}
 use Rattle.state.specs.declared.Place.{Place}
 use Rattle.state.specs.declared.Place.the-variants.{At, Nothing}
-use Rattle.state.specs.Test.{pick}
+use Rattle.base.specs.Test.{pick}
 use Rattle.state.specs.Parameter.{Parameter, share, factor, lowFlow, copies, recipes, codeOf, rangeOf, range, recipeParameters, systemParameters, parametersFor, parameterCount, codeAt, rangeAt, later, placeIn, placeOf}
-use Rattle.state.proofs.Tests.{below-or-not, allBelow, holds-below}
+use Rattle.base.proofs.Tests.{below-or-not, allBelow, holds-below}
 
 -- ---- an element of a mapped list, whatever stands for a missing one
 getD-map-below : {A B : Type 0} (f : A → B) (l : List A) (i : ℕ) (d : A) (e : B) → i < length l → getD (map f l) i e ≡ f (getD l i d)

@@ -6,7 +6,7 @@ use Rattle.state.specs.declared.Phase.the-variants.{Idle, Set, Running, 
 use Rattle.state.specs.declared.Event.{Event}
 use Rattle.state.specs.declared.Event.the-variants.{Pulses, Still, KeypadOn, KeypadOff, PowerBack}
 use Rattle.state.specs.declared.Record.{Record}
-use Rattle.state.specs.Test.{pick}
+use Rattle.base.specs.Test.{pick}
 use Rattle.state.specs.Field.{phase, keypad, flow, reset, powerfail, preset, raw, number, phaseNumber, on, off, get, put}
 use Rattle.state.specs.Valid.{valid}
 

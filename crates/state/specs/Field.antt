@@ -8,7 +8,7 @@ use Rattle.state.specs.declared.Phase.{Phase}
 use Rattle.state.specs.declared.Phase.the-variants.{Idle, Set, Running, Stopped, Done}
 use Rattle.state.specs.declared.Record.{Record}
 use Rattle.state.specs.declared.Range.{Range}
-use Rattle.state.specs.Test.{pick}
+use Rattle.base.specs.Test.{pick}
 use Rattle.state.specs.Parameter.{recipes, range, rangeAt}
 
 -- the rows of 01's table; `value i` and `level i` are those of the parameter at place i

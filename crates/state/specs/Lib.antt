@@ -1,4 +1,3 @@
-pub mod Test
 pub mod Parameter
 pub mod Field
 pub mod Valid

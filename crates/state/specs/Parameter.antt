@@ -7,7 +7,7 @@ use lib.ListN.{getD}
 use Rattle.state.specs.declared.Range.{Range}
 use Rattle.state.specs.declared.Place.{Place}
 use Rattle.state.specs.declared.Place.the-variants.{At, Nothing}
-use Rattle.state.specs.Test.{pick}
+use Rattle.base.specs.Test.{pick}
 
 -- the number of recipes
 abbrev pub recipes : ℕ

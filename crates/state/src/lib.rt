@@ -2,7 +2,7 @@
 ghost use mathlib.Core.Path.{_≡_};
 ghost use mathlib.Core.Bool.{_&&_};
 ghost use Prim.Native.Nat.{_%_};
-ghost use Rattle.state.specs.Test.{between, member};
+ghost use Rattle.base.specs.Test.{between, member};
 ghost use Rattle.state.specs.Parameter.{codeAt, rangeAt, placeOf};
 ghost use Rattle.state.specs.Field.{Field, put, phaseNumber, fieldRange, fieldsFor};
 ghost use Rattle.state.specs.Valid.{within, allIn, valid};
@@ -89,20 +89,6 @@ pub fn phase_number(p: Phase) -> u8
     }
 }
 
-// n is one of several numbers.
-pub fn is_among(n: u8, several: &[u8]) -> bool
-    ensures { λ b. ⌜ b ≡ member n (now (several .entry)) ⌝ }
-{
-    let mut i = 0;
-    while i < several.len() {
-        if n == several[i] {
-            return true;
-        }
-        i += 1;
-    }
-    false
-}
-
 // ---- parameters
 
 // The place of the parameter with a code.
@@ -167,19 +153,12 @@ pub fn range_at(place: usize) -> Range
     Range { low: 0, high: 0 }
 }
 
-// x is one of low to high.
-pub fn is_between(low: u32, high: u32, x: u32) -> bool
-    ensures { λ b. ⌜ b ≡ between low high x ⌝ }
-{
-    low <= x && x <= high
-}
-
 // The value and the level of the parameter at a place are in their ranges.
 fn parameter_valid(place: usize, value: u32, level: u8) -> bool
     ensures { λ b. ⌜ b ≡ (within (fieldRange (Field.value place)) value && within (fieldRange (Field.level place)) level) ⌝ }
 {
     let range = range_at(place);
-    is_between(range.low, range.high, value) && level <= 3
+    base::is_between(range.low, range.high, value) && level <= 3
 }
 
 // The batch number after n.

@@ -9,7 +9,7 @@ use lib.Seq.{take-length, length-take-le, take-all, drop-length}
 use borrow.Author.Tests.{eq-eqb, ne-eqb, eqb-true, le-leb, lt-leb, not-true, not-false}
 use borrow.Rule.Slice.PartMut.{putMid}
 use Rattle.state.specs.declared.Record.{Record}
-use Rattle.state.specs.Test.{pick, between}
+use Rattle.base.specs.Test.{pick, between, unless}
 use Rattle.state.specs.Valid.{valid}
 use Rattle.stored.specs.declared.Slot.{Slot}
 use Rattle.stored.specs.declared.Number.the-variants.{Inside, Outside}
@@ -17,7 +17,8 @@ use Rattle.stored.specs.declared.Header.{Header}
 use Rattle.stored.specs.declared.Header.the-variants as header
 use Rattle.stored.specs.declared.Refusal.{Refusal}
 use Rattle.stored.specs.Layout.{current, layout, numbersOf, recordOf}
-use Rattle.stored.specs.Form.{Outcome, K, done, unless, refusalNumber, headerAs, bigEndian, numberOf, pack, unpack, allIn, totalWidth, storedLength, storedForm, over, writeOf, headerOf, lowRecord, bodyOf, afterHeader, readOf, numberRead}
+use Rattle.stored.specs.Form.{Outcome, K, done, refusalNumber, headerAs, bigEndian, numberOf, pack, unpack, allIn, totalWidth, storedLength, storedForm, writeOf, headerOf, lowRecord, bodyOf, afterHeader, readOf, numberRead}
+use Rattle.base.specs.Lists.{over}
 
 -- ---- the length
 pub stored-177 : storedLength current ≡ 177

@@ -12,12 +12,14 @@ use lib.ListN.{List·getD-eq-default, length, getD, take, drop, set, length-appe
 use lib.Seq.{getD-take, drop-cons, drop-set-lt, getD-set-same, getD-drop, drop-drop, take-at, drop-at, length-take-le}
 use borrow.Author.Tests.{ltb-true}
 use borrow.Rule.Slice.PartMut.{putMid, same-len-mid}
-use Rattle.state.proofs.Tests.{below-or-not, and-left, and-right, between-high}
+use Rattle.base.proofs.Tests.{below-or-not, and-left, and-right, between-high}
 use Rattle.stored.specs.declared.Slot.{Slot}
 use Rattle.stored.specs.declared.Number.{Number}
 use Rattle.stored.specs.declared.Number.the-variants.{Inside, Outside}
 use Rattle.stored.specs.Layout.{noSlot}
-use Rattle.stored.specs.Form.{bigEndian, numberFrom, numberOf, pack, unpack, inSlot, allIn, totalWidth, over, unless, numberRead}
+use Rattle.stored.specs.Form.{bigEndian, numberFrom, numberOf, pack, unpack, inSlot, allIn, totalWidth, numberRead}
+use Rattle.base.specs.Lists.{over}
+use Rattle.base.specs.Test.{unless}
 use Rattle.stored.proofs.ListLaws.{copied, copied-none, copied-more, copied-all, over-append}
 
 -- ---- one number

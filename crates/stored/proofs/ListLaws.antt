@@ -8,7 +8,7 @@ use native.Mathlib.Omega.{arith}
 use lib.ListN.{length, getD, take, drop, set, length-append, drop-of-length-le}
 use lib.Seq.{drop-drop, take-all, take-at}
 use Rattle.stored.specs.Layout.{evens, odds}
-use Rattle.stored.specs.Form.{over}
+use Rattle.base.specs.Lists.{over}
 
 -- an element of a mapped list, whatever stands for a missing one
 pub getD-map-below : {A B : Type 0} (f : A → B) (l : List A) (i : ℕ) (d : A) (e : B) → i < length l → getD (map f l) i e ≡ f (getD l i d)

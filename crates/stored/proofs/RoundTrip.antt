@@ -14,13 +14,15 @@ use Rattle.state.specs.declared.Record.{Record}
 use Rattle.state.specs.Parameter.{parameterCount, rangeAt}
 use Rattle.state.specs.Field.{Field, address, access, phase, keypad, flow, changed, reset, powerfail, recipe, preset, raw, number, value, level, get, fieldRange, phaseNumber, phaseOf, flagNumber, flagOf}
 use Rattle.state.specs.Valid.{within, valid}
-use Rattle.state.proofs.Tests.{below-or-not, holds-below, and-yes, between-yes, between-high}
+use Rattle.base.proofs.Tests.{below-or-not, holds-below, and-yes, between-yes, between-high}
 use Rattle.state.proofs.Validity.{flag-in, phase-in, valid-tell}
 use Rattle.state.proofs.Fields.{Held, phase-back, phase-number, flag-back}
 use Rattle.state.proofs.Kept.{field-in, fields-in}
 use Rattle.stored.specs.declared.Slot.{Slot}
 use Rattle.stored.specs.Layout.{together, current, items, itemSlot, itemNumber, bits, flagFields, bit, layout, noSlot, numbersOf, recordOf, evens, odds}
-use Rattle.stored.specs.Form.{Outcome, K, done, unless, bigEndian, numberOf, pack, unpack, inSlot, allIn, storedLength, storedForm, over, writeOf, headerOf, lowRecord, bodyOf, afterHeader, readOf}
+use Rattle.stored.specs.Form.{Outcome, K, done, bigEndian, numberOf, pack, unpack, inSlot, allIn, storedLength, storedForm, writeOf, headerOf, lowRecord, bodyOf, afterHeader, readOf}
+use Rattle.base.specs.Test.{unless}
+use Rattle.base.specs.Lists.{over}
 use Rattle.stored.proofs.ListLaws.{over-take}
 use Rattle.stored.proofs.Bytes.{Bytes, big-length, number-big, big-number, pack-length, unpack-length, allFit, unpack-pack, pack-unpack, bytes-drop, bytes-take}
 use Rattle.stored.proofs.Slots.{numberCount, ofParameter, item-at, layout-length, in-at, number-high}

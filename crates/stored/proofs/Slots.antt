@@ -11,10 +11,10 @@ use lib.ListN.{length, getD, length-append, List·getD-append, List·getD-eq-def
 use lib.Seq.{getD-append-add, getD-drop}
 use borrow.Author.Tests.{eqb-true, ne-eqb, leb-true}
 use Rattle.state.specs.declared.Range.{Range}
-use Rattle.state.specs.Test.{pick}
+use Rattle.base.specs.Test.{pick}
 use Rattle.state.specs.Parameter.{parameterCount, rangeAt}
 use Rattle.state.specs.Field.{address, value, level}
-use Rattle.state.proofs.Tests.{below-or-not, allBelow, holds-below, and-left, and-right, between-high}
+use Rattle.base.proofs.Tests.{below-or-not, allBelow, holds-below, and-left, and-right, between-high}
 use Rattle.stored.specs.declared.Slot.{Slot}
 use Rattle.stored.specs.Layout.{Item, alone, parameterItems, firstItems, current, items, itemSlot, layout, noSlot}
 use Rattle.stored.specs.Form.{inSlot, allIn}

@@ -4,8 +4,9 @@ use mathlib.Core.Bool.{Bool, true, false, _&&_}
 use mathlib.Core.List.{List, [], _∷_, _++_, map}
 use lib.Dec.{eqb, leb}
 use lib.ListN.{length, getD, take, drop}
+use Rattle.base.specs.Test.{unless, pick, between}
+use Rattle.base.specs.Lists.{over}
 use Rattle.state.specs.declared.Record.{Record}
-use Rattle.state.specs.Test.{pick, between}
 use Rattle.state.specs.Valid.{valid}
 use Rattle.stored.specs.declared.Slot.{Slot}
 use Rattle.stored.specs.declared.Refusal.{Refusal}
@@ -43,11 +44,6 @@ abbrev pub writtenAs : Written → Outcome
 writtenAs written.InvalidRecord = K 5
 writtenAs written.ShortBuffer = K 6
 writtenAs written.Whole = done
-
--- the first unless the test holds, and else the second: a chain of these goes in the order of the numbers
-abbrev pub unless : {A : Type 0} → Bool → A → A → A
-unless true a b = b
-unless false a b = a
 
 -- ---- numbers as bytes, "high first"
 unfoldable pub bigEndian : ℕ → ℕ → List ℕ
@@ -93,10 +89,6 @@ storedLength version = pick (eqb version current) (headerWidth + totalWidth (lay
 
 unfoldable pub storedForm : Record → List ℕ
 storedForm r = current ∷ (bigEndian 2 (storedLength current) ++ pack (layout current) (numbersOf current r))
-
--- the first list laid over the start of the second, "and keeps the rest"
-unfoldable pub over : List ℕ → List ℕ → List ℕ
-over f o = f ++ drop (length f) o
 
 -- ---- writing: "it refuses K5 record not valid, K6 buffer under 177; buffer untouched"
 unfoldable pub writeOf : Record → List ℕ → Outcome × List ℕ

@@ -1,4 +1,5 @@
 // The stored form of a record.
+use base::wide;
 use state::PARAMETERS;
 use state::Phase;
 use state::RECIPES;
@@ -9,7 +10,8 @@ ghost use Prim.Native.Nat.{_+_, _≤_, _<_};
 ghost use lib.ListN.{length, getD, drop};
 ghost use Rattle.state.specs.Field.{phaseOf, phaseNumber, flagNumber};
 ghost use Rattle.stored.specs.Layout.{current, layout, noSlot, flagFields, bits, evens, odds, numbersOf, recordOf};
-ghost use Rattle.stored.specs.Form.{storedLength, headerAs, answerAs, writtenAs, refusalNumber, K, bigEndian, numberOf, pack, allIn, totalWidth, over, writeOf, headerOf, lowRecord, bodyOf, readOf, numberRead};
+ghost use Rattle.stored.specs.Form.{storedLength, headerAs, answerAs, writtenAs, refusalNumber, K, bigEndian, numberOf, pack, allIn, totalWidth, writeOf, headerOf, lowRecord, bodyOf, readOf, numberRead};
+ghost use Rattle.base.specs.Lists.{over};
 
 // The version that is written.
 pub const VERSION: u8 = 1;
@@ -286,12 +288,6 @@ fn put_number(n: u32, out: &mut [u8])
     }
 }
 
-fn wide(x: u8) -> u32
-    ensures { λ r. ⌜ (r ≡ x) × (r < 256) ⌝ }
-{
-    x as u32
-}
-
 // The number that the bytes are.
 fn get_number(s: &[u8]) -> u32
     requires { ⌜ length (now s) ≤ 4 ⌝ }
@@ -364,7 +360,7 @@ fn read_number(s: &[u8], slot: Slot) -> Number
     ensures { λ n. ⌜ n ≡ numberRead slot (now (s .entry)) ⌝ }
 {
     let n = get_number(s);
-    if !state::is_between(slot.low, slot.high, n) {
+    if !base::is_between(slot.low, slot.high, n) {
         return Number::Outside;
     }
     Number::Inside(n)

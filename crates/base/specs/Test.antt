@@ -9,6 +9,11 @@ abbrev pub pick : {A : Type 0} → Bool → A → A → A
 pick true a b = a
 pick false a b = b
 
+-- the first unless the test holds, and else the second: a chain of these is "in this order"
+abbrev pub unless : {A : Type 0} → Bool → A → A → A
+unless true a b = b
+unless false a b = a
+
 -- x is one of low to high
 abbrev pub between : ℕ → ℕ → ℕ → Bool
 between low high x = leb low x && leb x high

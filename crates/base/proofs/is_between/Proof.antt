@@ -1,7 +1,7 @@
--- `state::is_between` meets its contract: the two orders are the two tests. Assumes nothing.
+-- `base::is_between` meets its contract: the two orders are the two tests. Assumes nothing.
 use borrow.Author.Tests.{le-leb, lt-leb}
-use Rattle.state.proofs.is_between.Statement.{statement}
-use Rattle.state.proofs.is_between.Tie as tie
+use Rattle.base.proofs.is_between.Statement.{statement}
+use Rattle.base.proofs.is_between.Tie as tie
 
 returns : tie.Need-returns
 returns c = simp (le-leb _ _ (c .if1 .taken))

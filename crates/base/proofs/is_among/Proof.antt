@@ -1,12 +1,12 @@
--- `state::is_among` meets its contract: what is left of the list decides as the whole does. Assumes nothing.
+-- `base::is_among` meets its contract: what is left of the list decides as the whole does. Assumes nothing.
 use Prim.Native.Nat.{_≤_, _-_}
 use mathlib.Core.Path.{_≡_, refl, sym, _∙_}
 use borrow.Author.Needs.{needs}
 use lib.ListN.{length, drop}
-use Rattle.state.specs.Test.{member}
-use Rattle.state.proofs.Tests.{member-end, member-found, member-turn}
-use Rattle.state.proofs.is_among.Statement.{statement}
-use Rattle.state.proofs.is_among.Tie as tie
+use Rattle.base.specs.Test.{member}
+use Rattle.base.proofs.Tests.{member-end, member-found, member-turn}
+use Rattle.base.proofs.is_among.Statement.{statement}
+use Rattle.base.proofs.is_among.Tie as tie
 
 abbrev Inv-loop : tie.InvT-loop
 Inv-loop n several i₀ i = (i ≤ length several) × (member n several ≡ member n (drop i several))

@@ -11,7 +11,7 @@ use lib.Dec.{leb, ltb}
 use lib.ListN.{length, drop, getD, drop-of-length-le}
 use lib.Seq.{drop-cons}
 use borrow.Author.Tests.{le-leb, leb-true, ltb-true, ltb-false, eq-eqb, ne-eqb}
-use Rattle.state.specs.Test.{between, member}
+use Rattle.base.specs.Test.{between, member}
 
 pub and-yes : (a b : Bool) → a ≡ true → b ≡ true → (a && b) ≡ true
 and-yes true b p q = q
