@@ -23,11 +23,7 @@ use Rattle.command.specs.Answer.{Verdict, NO, accepted, firstOf, verdict
 use Rattle.command.specs.Request.{volumeOf, flagOf, requestFor, requestOf, guarded, verdictFor, shows, changes, replyTo, recordTo}
 use Rattle.command.proofs.Parsing.{equal-true, words-behind, differs, absent, codes, unknown}
 use Rattle.command.proofs.Deciding.{place-below}
-
--- a test holds or not
-by-test : {P : Type 0} (b : Bool) → (b ≡ true → P) → (b ≡ false → P) → P
-by-test true f g = f refl
-by-test false f g = g refl
+use Rattle.command.proofs.Tables.{by-test}
 
 -- a code has a place or not
 by-place : {P : Type 0} (q : Place) → ((i : ℕ) → q ≡ At i → P) → (q ≡ Nothing → P) → P
@@ -205,6 +201,9 @@ module _ (t : List ℕ) (r : Record) where
   pub verdict-by-steps : verdictFor (requestOf t) r ≡ verdict t r
   verdict-by-steps = sym (agrees t r .same-verdict)
 
+  pub effect-by-steps : verdict t r ≡ accepted → rowOf (codeIn t) commands .effect t r ≡ changes (requestOf t) r
+  effect-by-steps = agrees t r .same-effect
+
   reply-so : (v : Verdict) → verdict t r ≡ v → replyFor v t r ≡ replyTo v (requestOf t) r
   reply-so (NO n) e = refl
   reply-so accepted e = agrees t r .same-reply e
@@ -214,7 +213,7 @@ module _ (t : List ℕ) (r : Record) where
 
   record-so : (v : Verdict) → verdict t r ≡ v → recordFor v t r ≡ recordTo v (requestOf t) r
   record-so (NO n) e = refl
-  record-so accepted e = ap (λ (cs : List Change). applied cs r) (agrees t r .same-effect e)
+  record-so accepted e = ap (λ (cs : List Change). applied cs r) (effect-by-steps e)
 
   pub record-by-steps : recordTo (verdictFor (requestOf t) r) (requestOf t) r ≡ recordAfter t r
   unfolding recordAfter

@@ -33,7 +33,8 @@ pub record FirstAt (rows : List Row) (t : List ℕ) (r : Record) (i : ℕ) : Typ
   pub holds : applies (getD rows i noRow) t r ≡ true
   pub none-before : (j : ℕ) → j < i → applies (getD rows j noRow) t r ≡ false
 
-by-test : {P : Type 0} (b : Bool) → (b ≡ true → P) → (b ≡ false → P) → P
+-- a test holds or not
+pub by-test : {P : Type 0} (b : Bool) → (b ≡ true → P) → (b ≡ false → P) → P
 by-test true f g = f refl
 by-test false f g = g refl
 
