@@ -16,7 +16,7 @@ use Rattle.state.specs.declared.Place.the-variants.{At}
 use Rattle.state.specs.declared.Record.{Record}
 use Rattle.base.specs.Test.{pick, member}
 use Rattle.state.specs.Parameter.{parameterCount, placeOf}
-use Rattle.state.specs.Field.{keypad, flow, changed, reset, powerfail, recipe, raw, number, value, level, get, flagNumber, phaseNumber}
+use Rattle.state.specs.Field.{keypad, flow, changed, reset, powerfail, recipe, get, flagNumber, phaseNumber}
 use Rattle.state.specs.Event.{running, stopped, done}
 use Rattle.state.specs.Event as event
 use Rattle.base.proofs.Tests.{and-yes, and-left, and-right, below-or-not, between-yes}
@@ -31,7 +31,8 @@ use Rattle.command.specs.Status.{inPhases, isOn, weight, first, second, fourth,
 use Rattle.command.specs.Commands.{placeNumber, factorPlace, OK}
 use Rattle.command.specs.Answer.{Verdict, NO, accepted}
 use Rattle.command.specs.Request.{decisionAs, verdictFor, shows, replyTo}
-use Rattle.reply.specs.Reply.{overAt, labelled, textFor, writtenOf}
+use Rattle.command.proofs.Parsing.{digits-length}
+use Rattle.reply.specs.Reply.{overAt, labelled, labelledTwo, textFor, writtenOf}
 
 -- ---- bytes laid over a list from a place on
 pub over-at-none : (at : ℕ) (s : List ℕ) → overAt at [] s ≡ s
@@ -104,6 +105,7 @@ Laid at xs o n o′ = (n ≡ at + length xs) × (o′ ≡ overAt at xs o)
 pub laid-none : (at : ℕ) (o : List ℕ) → Laid at [] o at o
 laid-none at o = (omega arith, sym (over-at-none at o))
 
+-- of equal bytes
 pub laid-same : (at n : ℕ) (xs ys o o₁ : List ℕ) → xs ≡ ys → Laid at xs o n o₁ → Laid at ys o n o₁
 laid-same at n xs ys o o₁ e a = (a .0 ∙ ap (λ (y : List ℕ). at + length y) e, a .1 ∙ ap (λ (y : List ℕ). overAt at y o) e)
 
@@ -128,12 +130,6 @@ word-again w o o₁ at i h l e =
 
 pub word-done : (w o o₁ : List ℕ) (at i : ℕ) → length w ≤ i → o₁ ≡ overAt at (take i w) o → o₁ ≡ overAt at w o
 word-done w o o₁ at i h e = e ∙ ap (λ (y : List ℕ). overAt at y o) (take-all i w h)
-
--- ---- digits
-pub digits-length : (w n : ℕ) → length (digits w n) ≡ w
-unfolding digits
-digits-length zero n = refl
-digits-length (suc w) n = simp (length-append, digits-length w (n / 10)) (omega arith)
 
 -- the loop of `fill_digits`: the digits that are left to write, and those that are written
 pub digits-begun : (o : List ℕ) (n : ℕ) → digits (length o) n ++ drop (length o) o ≡ digits (length o) n
@@ -205,6 +201,7 @@ if-high true w = omega arith
 if-high false w = omega arith
 
 -- ---- the record's phase and flags in EQ and RS
+-- a number of the phase that was found
 pub in-phases : (p q : ℕ) (ps : List ℕ) (b : Bool) → p ≡ q → b ≡ member p ps → member q ps ≡ b
 in-phases p q ps b e h = sym (h ∙ ap (λ (n : ℕ). member n ps) e)
 
@@ -232,6 +229,7 @@ pub status-length : (r : Record) → length (statusCharacters r) ≡ 6
 unfolding statusCharacters
 status-length r = refl
 
+-- the six characters, from the weights as the code finds them
 pub status-laid : (r : Record) (at n p a₁ a₂ a₃ a₄ b₁ b₂ b₃ d₁ d₂ : ℕ) (batch begun running done : Bool) (o o₁ : List ℕ)
     → p ≡ phaseNumber (r .phase) → batch ≡ member p (1 ∷ 2 ∷ 3 ∷ []) → begun ≡ member p (2 ∷ 3 ∷ []) → running ≡ member p (2 ∷ []) → done ≡ member p (4 ∷ [])
     → a₁ ≡ 8 * flagNumber (r .keypad) → a₂ ≡ 4 * flagNumber running → a₃ ≡ 2 * flagNumber (r .flow) → a₄ ≡ 1 * flagNumber batch
@@ -310,6 +308,10 @@ text-digits w n = let l : length (digits w n) ≡ w = digits-length w n in recor
 pub text-labelled : (w : List ℕ) (k n : ℕ) → allText w ≡ true → Text (length w + k) (length w + k) (labelled w k n)
 text-labelled w k n h = text-joined _ _ _ _ w (digits k n) (text-word w h) (text-digits k n)
 
+pub text-two : (w : List ℕ) (k n i j : ℕ) → allText w ≡ true → Text (length w + k + (1 + i)) (length w + k + (1 + i)) (labelledTwo w k n i j)
+text-two w k n i j h =
+    text-joined _ _ _ _ (labelled w k n) _ (text-labelled w k n h) (text-labelled (space ∷ []) i j (one-text space [] (omega arith) (omega arith) no-text))
+
 -- each status code has two letters
 abbrev pub lettersOf : Shown → Bool
 lettersOf s = eqb (length (s .letters)) 2 && allText (s .letters)
@@ -364,7 +366,7 @@ text-status r =
 
 -- ---- whether there is a reply
 
--- what an accepted request shows is not empty
+-- an accepted request of this form shows something
 abbrev pub served : Request → Bool
 served Unknown = false
 served Malformed = false
@@ -419,24 +421,30 @@ verdict-answers End r = served-answers (verdictFor End r) End refl
 verdict-answers ClearReset r = served-answers (verdictFor ClearReset r) ClearReset refl
 verdict-answers ClearChanged r = served-answers (verdictFor ClearChanged r) ClearChanged refl
 
+-- a text of just n bytes, with room for two address digits
+short : (n : ℕ) (t : List ℕ) → 2 ≤ n → n ≤ 27 → Text n n t → Text 2 27 t
+short n t h k f = text-wider n n 2 27 t h k f
+
 ok-text : Text 2 27 OK
 unfolding allText
-ok-text = text-wider _ _ _ _ _ (omega arith) (omega arith) (text-word OK refl)
+ok-text = short 2 OK (omega arith) (omega arith) (text-word OK refl)
 
--- what is shown, with room for two address digits
+-- what is shown
 pub text-shown : (q : Request) (r : Record) → served q ≡ true → Text 2 27 (shows q r)
 unfolding allText
 text-shown Unknown r h = absurd (false≢true h)
 text-shown Malformed r h = absurd (false≢true h)
 text-shown NotServed r h = absurd (false≢true h)
-text-shown Status r h = text-wider _ _ _ _ _ (omega arith) (omega arith) (text-status r)
-text-shown Codes r h = text-wider _ _ _ _ _ (omega arith) (omega arith) (text-joined _ _ _ _ (0x52 ∷ 0x53 ∷ 0x20 ∷ []) _ (text-word (0x52 ∷ 0x53 ∷ 0x20 ∷ []) refl) (text-codes statusCodes r refl))
-text-shown Number r h = text-wider _ _ _ _ _ (omega arith) (omega arith) (text-labelled (0x54 ∷ 0x4e ∷ 0x20 ∷ []) 4 (get number r) refl)
-text-shown Recipe r h = text-wider _ _ _ _ _ (omega arith) (omega arith) (text-labelled (0x52 ∷ 0x52 ∷ 0x20 ∷ []) 2 (get recipe r) refl)
-text-shown Composition r h = text-wider _ _ _ _ _ (omega arith) (omega arith) (text-joined _ _ _ _ (labelled (0x52 ∷ 0x43 ∷ 0x20 ∷ []) 2 (get recipe r)) _ (text-labelled (0x52 ∷ 0x43 ∷ 0x20 ∷ []) 2 (get recipe r) refl) (text-labelled (space ∷ []) 8 (get (value (factorPlace (get recipe r))) r) refl))
-text-shown Raw r h = text-wider _ _ _ _ _ (omega arith) (omega arith) (text-labelled (0x52 ∷ 0x54 ∷ 0x20 ∷ 0x52 ∷ 0x20 ∷ []) 8 (get raw r) refl)
-text-shown (Value p) r h = text-wider _ _ _ _ _ (omega arith) (omega arith) (text-joined _ _ _ _ (labelled (0x50 ∷ 0x56 ∷ 0x20 ∷ []) 3 p) _ (text-labelled (0x50 ∷ 0x56 ∷ 0x20 ∷ []) 3 p refl) (text-labelled (space ∷ []) 8 (get (value (placeNumber (placeOf p))) r) refl))
-text-shown (Level p) r h = text-wider _ _ _ _ _ (omega arith) (omega arith) (text-joined _ _ _ _ (labelled (0x58 ∷ 0x56 ∷ 0x20 ∷ []) 3 p) _ (text-labelled (0x58 ∷ 0x56 ∷ 0x20 ∷ []) 3 p refl) (text-labelled (space ∷ []) 1 (get (level (placeNumber (placeOf p))) r) refl))
+text-shown Status r h = short 6 _ (omega arith) (omega arith) (text-status r)
+text-shown Codes r h =
+    text-wider 3 27 2 27 _ (omega arith) (omega arith)
+    (text-joined 3 3 0 24 (0x52 ∷ 0x53 ∷ 0x20 ∷ []) _ (text-word (0x52 ∷ 0x53 ∷ 0x20 ∷ []) refl) (text-codes statusCodes r refl))
+text-shown Number r h = short 7 _ (omega arith) (omega arith) (text-labelled (0x54 ∷ 0x4e ∷ 0x20 ∷ []) 4 _ refl)
+text-shown Recipe r h = short 5 _ (omega arith) (omega arith) (text-labelled (0x52 ∷ 0x52 ∷ 0x20 ∷ []) 2 _ refl)
+text-shown Composition r h = short 14 _ (omega arith) (omega arith) (text-two (0x52 ∷ 0x43 ∷ 0x20 ∷ []) 2 (get recipe r) 8 _ refl)
+text-shown Raw r h = short 13 _ (omega arith) (omega arith) (text-labelled (0x52 ∷ 0x54 ∷ 0x20 ∷ 0x52 ∷ 0x20 ∷ []) 8 _ refl)
+text-shown (Value p) r h = short 15 _ (omega arith) (omega arith) (text-two (0x50 ∷ 0x56 ∷ 0x20 ∷ []) 3 p 8 _ refl)
+text-shown (Level p) r h = short 8 _ (omega arith) (omega arith) (text-two (0x58 ∷ 0x56 ∷ 0x20 ∷ []) 3 p 1 _ refl)
 text-shown (SetValue p n) r h = ok-text
 text-shown (SetLevel p l) r h = ok-text
 text-shown (SelectRecipe n) r h = ok-text
@@ -447,7 +455,7 @@ text-shown End r h = ok-text
 text-shown ClearReset r h = ok-text
 text-shown ClearChanged r h = ok-text
 
--- "text 4 to 60 bytes, each 0x20..0x7E": of a reply at most 29
+-- a reply's text is legal in a frame: "4 to 60 bytes, each 0x20..0x7E"
 pub text-legal : (v : Verdict) (q : Request) (r : Record) → answers v q ≡ true → Text 4 29 (textFor v q r)
 unfolding textFor allText
 text-legal (NO n) q r h =

@@ -19,7 +19,7 @@ ghost use Rattle.state.specs.Parameter.{placeOf};
 ghost use Rattle.state.specs.Field.{Field, get, flagNumber};
 ghost use Rattle.command.specs.Word.{digits};
 ghost use Rattle.command.specs.Status.{statusCharacters, statusCodes, codesOn};
-ghost use Rattle.command.specs.Commands.{placeNumber, factorPlace};
+ghost use Rattle.command.specs.Commands.{placeNumber, factorPlace, OK};
 ghost use Rattle.command.specs.Request.{decisionAs, refusalNumber, shows};
 ghost use Rattle.reply.specs.Reply.{overAt, labelled, labelledTwo, writtenOf};
 
@@ -196,6 +196,14 @@ fn factor_of(r: Record) -> u32
     0
 }
 
+// The reply to an accepted request that changes the record.
+fn put_ok(at: usize, out: &mut [u8]) -> usize
+    requires { ⌜ at + 2 ≤ length (now out) ⌝ }
+    ensures { λ n. ⌜ (n ≡ at + length OK) × (now (out .exit) ≡ overAt at OK (now (out .entry))) ⌝ }
+{
+    put_word(b"OK", at, out)
+}
+
 // What an accepted request shows.
 fn show(r: Record, request: Request, at: usize, out: &mut [u8]) -> usize
     requires { ⌜ at + 27 ≤ length (now out) ⌝ }
@@ -216,15 +224,15 @@ fn show(r: Record, request: Request, at: usize, out: &mut [u8]) -> usize
         Request::Raw => put_labelled(b"RT R ", r.raw, 8, at, out),
         Request::Value(code) => put_two(b"PV ", code as u32, 3, value_of(r, code), 8, at, out),
         Request::Level(code) => put_two(b"XV ", code as u32, 3, level_of(r, code), 1, at, out),
-        Request::SetValue(_, _) => put_word(b"OK", at, out),
-        Request::SetLevel(_, _) => put_word(b"OK", at, out),
-        Request::SelectRecipe(_) => put_word(b"OK", at, out),
-        Request::SetBatch(_) => put_word(b"OK", at, out),
-        Request::Start => put_word(b"OK", at, out),
-        Request::Stop => put_word(b"OK", at, out),
-        Request::End => put_word(b"OK", at, out),
-        Request::ClearReset => put_word(b"OK", at, out),
-        Request::ClearChanged => put_word(b"OK", at, out),
+        Request::SetValue(_, _) => put_ok(at, out),
+        Request::SetLevel(_, _) => put_ok(at, out),
+        Request::SelectRecipe(_) => put_ok(at, out),
+        Request::SetBatch(_) => put_ok(at, out),
+        Request::Start => put_ok(at, out),
+        Request::Stop => put_ok(at, out),
+        Request::End => put_ok(at, out),
+        Request::ClearReset => put_ok(at, out),
+        Request::ClearChanged => put_ok(at, out),
     }
 }
 

@@ -1,6 +1,7 @@
 -- `reply::put_labelled` meets its contract: the word, and the number behind it, are joined. Assumes nothing.
 use borrow.Author.Needs.{needs}
-use Rattle.reply.proofs.Laws.{digits-length, joined, sized}
+use Rattle.command.proofs.Parsing.{digits-length}
+use Rattle.reply.proofs.Laws.{joined, sized}
 use Rattle.reply.proofs.put_labelled.Statement.{statement}
 use Rattle.reply.proofs.put_labelled.Tie as tie
 

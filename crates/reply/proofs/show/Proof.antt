@@ -115,83 +115,56 @@ put-two-requires-3 c κs = search needs
 enum-told-10 : tie.Need-enum-told-10
 enum-told-10 c = search needs
 
-slice-aggregate-put-word-2 : tie.Need-slice-aggregate-put-word-2
-slice-aggregate-put-word-2 c = search needs
-
-put-word-requires-2 : tie.Need-put-word-requires-2
-put-word-requires-2 c κs = search needs
+put-ok-requires : tie.Need-put-ok-requires
+put-ok-requires c κs = search needs
 
 enum-told-11 : tie.Need-enum-told-11
 enum-told-11 c = search needs
 
-slice-aggregate-put-word-3 : tie.Need-slice-aggregate-put-word-3
-slice-aggregate-put-word-3 c = search needs
-
-put-word-requires-3 : tie.Need-put-word-requires-3
-put-word-requires-3 c κs = search needs
+put-ok-requires-2 : tie.Need-put-ok-requires-2
+put-ok-requires-2 c κs = search needs
 
 enum-told-12 : tie.Need-enum-told-12
 enum-told-12 c = search needs
 
-slice-aggregate-put-word-4 : tie.Need-slice-aggregate-put-word-4
-slice-aggregate-put-word-4 c = search needs
-
-put-word-requires-4 : tie.Need-put-word-requires-4
-put-word-requires-4 c κs = search needs
+put-ok-requires-3 : tie.Need-put-ok-requires-3
+put-ok-requires-3 c κs = search needs
 
 enum-told-13 : tie.Need-enum-told-13
 enum-told-13 c = search needs
 
-slice-aggregate-put-word-5 : tie.Need-slice-aggregate-put-word-5
-slice-aggregate-put-word-5 c = search needs
-
-put-word-requires-5 : tie.Need-put-word-requires-5
-put-word-requires-5 c κs = search needs
+put-ok-requires-4 : tie.Need-put-ok-requires-4
+put-ok-requires-4 c κs = search needs
 
 enum-told-14 : tie.Need-enum-told-14
 enum-told-14 c = search needs
 
-slice-aggregate-put-word-6 : tie.Need-slice-aggregate-put-word-6
-slice-aggregate-put-word-6 c = search needs
-
-put-word-requires-6 : tie.Need-put-word-requires-6
-put-word-requires-6 c κs = search needs
+put-ok-requires-5 : tie.Need-put-ok-requires-5
+put-ok-requires-5 c κs = search needs
 
 enum-told-15 : tie.Need-enum-told-15
 enum-told-15 c = search needs
 
-slice-aggregate-put-word-7 : tie.Need-slice-aggregate-put-word-7
-slice-aggregate-put-word-7 c = search needs
-
-put-word-requires-7 : tie.Need-put-word-requires-7
-put-word-requires-7 c κs = search needs
+put-ok-requires-6 : tie.Need-put-ok-requires-6
+put-ok-requires-6 c κs = search needs
 
 enum-told-16 : tie.Need-enum-told-16
 enum-told-16 c = search needs
 
-slice-aggregate-put-word-8 : tie.Need-slice-aggregate-put-word-8
-slice-aggregate-put-word-8 c = search needs
-
-put-word-requires-8 : tie.Need-put-word-requires-8
-put-word-requires-8 c κs = search needs
+put-ok-requires-7 : tie.Need-put-ok-requires-7
+put-ok-requires-7 c κs = search needs
 
 enum-told-17 : tie.Need-enum-told-17
 enum-told-17 c = search needs
 
-slice-aggregate-put-word-9 : tie.Need-slice-aggregate-put-word-9
-slice-aggregate-put-word-9 c = search needs
-
-put-word-requires-9 : tie.Need-put-word-requires-9
-put-word-requires-9 c κs = search needs
+put-ok-requires-8 : tie.Need-put-ok-requires-8
+put-ok-requires-8 c κs = search needs
 
 enum-told-18 : tie.Need-enum-told-18
 enum-told-18 c = search needs
 
-slice-aggregate-put-word-10 : tie.Need-slice-aggregate-put-word-10
-slice-aggregate-put-word-10 c = search needs
-
-put-word-requires-10 : tie.Need-put-word-requires-10
-put-word-requires-10 c κs = search needs
+put-ok-requires-9 : tie.Need-put-ok-requires-9
+put-ok-requires-9 c κs = search needs
 
 returns : tie.Need-returns
 returns c = shown _ _ _ _ _ _ _ (c .enum-told .given .1) (laid-none _ _)
@@ -206,13 +179,18 @@ same-length : tie.Need-same-length
 same-length c = search needs
 
 returns-4 : tie.Need-returns-4
-returns-4 c = shown _ _ _ _ _ _ _ (c .before .before .before .before .enum-told4 .given .1) (sized _ _ _ _ _ _ (status-length _) (c .before .before .put-status .ensures))
+returns-4 c =
+    shown _ _ _ _ _ _ _ (c .before .before .before .before .enum-told4 .given .1)
+    (sized _ _ _ _ _ _ (status-length _) (c .before .before .put-status .ensures))
 
 same-length-2 : tie.Need-same-length-2
 same-length-2 c = search needs
 
 returns-5 : tie.Need-returns-5
-returns-5 c = shown _ _ _ _ _ _ _ (c .before .before .before .before .before .before .before .before .before .enum-told5 .given .1) (joined _ _ _ _ _ _ _ _ (c .before .before .before .before .before .before .put-word .ensures) (c .before .before .put-codes .ensures))
+returns-5 c =
+    let w = c .before .before .before .before .before .before in
+    shown _ _ _ _ _ _ _ (w .before .before .before .enum-told5 .given .1)
+    (joined _ _ _ _ _ _ _ _ (w .put-word .ensures) (c .before .before .put-codes .ensures))
 
 same-length-3 : tie.Need-same-length-3
 same-length-3 c = search needs
@@ -230,8 +208,12 @@ same-length-5 : tie.Need-same-length-5
 same-length-5 c = search needs
 
 returns-8 : tie.Need-returns-8
-returns-8 c = shown _ _ _ _ _ _ _ (c .before .before .before .before .before .before .before .enum-told8 .given .1)
-    (laid-same _ _ _ _ _ _ (ap (labelledTwo (0x52 ∷ 0x43 ∷ 0x20 ∷ []) 2 (c .before .before .before .before .before .before .before .before .before .before .args .r .recipe) 8) (c .before .before .before .before .factor-of .ensures)) (c .before .before .put-two .ensures))
+returns-8 c =
+    let f = c .before .before .before .before in
+    let q = f .before .before .before in
+    let n = q .before .before .before .args .r .recipe in
+    shown _ _ _ _ _ _ _ (q .enum-told8 .given .1)
+    (laid-same _ _ _ _ _ _ (ap (labelledTwo (0x52 ∷ 0x43 ∷ 0x20 ∷ []) 2 n 8) (f .factor-of .ensures)) (c .before .before .put-two .ensures))
 
 same-length-6 : tie.Need-same-length-6
 same-length-6 c = search needs
@@ -243,69 +225,75 @@ same-length-7 : tie.Need-same-length-7
 same-length-7 c = search needs
 
 returns-10 : tie.Need-returns-10
-returns-10 c = shown _ _ _ _ _ _ _ (c .before .before .before .before .before .before .before .request .given .1)
-    (laid-same _ _ _ _ _ _ (ap (labelledTwo (0x50 ∷ 0x56 ∷ 0x20 ∷ []) 3 (c .before .before .before .before .before .before .before .request .given .0 .0) 8) (c .before .before .before .before .value-of .ensures)) (c .before .before .put-two2 .ensures))
+returns-10 c =
+    let f = c .before .before .before .before in
+    let q = f .before .before .before .request .given in
+    shown _ _ _ _ _ _ _ (q .1)
+    (laid-same _ _ _ _ _ _ (ap (labelledTwo (0x50 ∷ 0x56 ∷ 0x20 ∷ []) 3 (q .0 .0) 8) (f .value-of .ensures)) (c .before .before .put-two2 .ensures))
 
 same-length-8 : tie.Need-same-length-8
 same-length-8 c = search needs
 
 returns-11 : tie.Need-returns-11
-returns-11 c = shown _ _ _ _ _ _ _ (c .before .before .before .before .before .before .before .request2 .given .1)
-    (laid-same _ _ _ _ _ _ (ap (labelledTwo (0x58 ∷ 0x56 ∷ 0x20 ∷ []) 3 (c .before .before .before .before .before .before .before .request2 .given .0 .0) 1) (c .before .before .before .before .level-of .ensures)) (c .before .before .put-two3 .ensures))
+returns-11 c =
+    let f = c .before .before .before .before in
+    let q = f .before .before .before .request2 .given in
+    shown _ _ _ _ _ _ _ (q .1)
+    (laid-same _ _ _ _ _ _ (ap (labelledTwo (0x58 ∷ 0x56 ∷ 0x20 ∷ []) 3 (q .0 .0) 1) (f .level-of .ensures)) (c .before .before .put-two3 .ensures))
 
 same-length-9 : tie.Need-same-length-9
 same-length-9 c = search needs
 
 returns-12 : tie.Need-returns-12
-returns-12 c = shown _ _ _ _ _ _ _ (c .before .before .before .before .before .enum-told10 .given .1) (c .before .before .put-word2 .ensures)
+returns-12 c = shown _ _ _ _ _ _ _ (c .before .before .before .before .enum-told10 .given .1) (c .before .before .put-ok .ensures)
 
 same-length-10 : tie.Need-same-length-10
 same-length-10 c = search needs
 
 returns-13 : tie.Need-returns-13
-returns-13 c = shown _ _ _ _ _ _ _ (c .before .before .before .before .before .enum-told11 .given .1) (c .before .before .put-word3 .ensures)
+returns-13 c = shown _ _ _ _ _ _ _ (c .before .before .before .before .enum-told11 .given .1) (c .before .before .put-ok2 .ensures)
 
 same-length-11 : tie.Need-same-length-11
 same-length-11 c = search needs
 
 returns-14 : tie.Need-returns-14
-returns-14 c = shown _ _ _ _ _ _ _ (c .before .before .before .before .before .enum-told12 .given .1) (c .before .before .put-word4 .ensures)
+returns-14 c = shown _ _ _ _ _ _ _ (c .before .before .before .before .enum-told12 .given .1) (c .before .before .put-ok3 .ensures)
 
 same-length-12 : tie.Need-same-length-12
 same-length-12 c = search needs
 
 returns-15 : tie.Need-returns-15
-returns-15 c = shown _ _ _ _ _ _ _ (c .before .before .before .before .before .enum-told13 .given .1) (c .before .before .put-word5 .ensures)
+returns-15 c = shown _ _ _ _ _ _ _ (c .before .before .before .before .enum-told13 .given .1) (c .before .before .put-ok4 .ensures)
 
 same-length-13 : tie.Need-same-length-13
 same-length-13 c = search needs
 
 returns-16 : tie.Need-returns-16
-returns-16 c = shown _ _ _ _ _ _ _ (c .before .before .before .before .before .enum-told14 .given .1) (c .before .before .put-word6 .ensures)
+returns-16 c = shown _ _ _ _ _ _ _ (c .before .before .before .before .enum-told14 .given .1) (c .before .before .put-ok5 .ensures)
 
 same-length-14 : tie.Need-same-length-14
 same-length-14 c = search needs
 
 returns-17 : tie.Need-returns-17
-returns-17 c = shown _ _ _ _ _ _ _ (c .before .before .before .before .before .enum-told15 .given .1) (c .before .before .put-word7 .ensures)
+returns-17 c = shown _ _ _ _ _ _ _ (c .before .before .before .before .enum-told15 .given .1) (c .before .before .put-ok6 .ensures)
 
 same-length-15 : tie.Need-same-length-15
 same-length-15 c = search needs
 
 returns-18 : tie.Need-returns-18
-returns-18 c = shown _ _ _ _ _ _ _ (c .before .before .before .before .before .enum-told16 .given .1) (c .before .before .put-word8 .ensures)
+returns-18 c = shown _ _ _ _ _ _ _ (c .before .before .before .before .enum-told16 .given .1) (c .before .before .put-ok7 .ensures)
 
 same-length-16 : tie.Need-same-length-16
 same-length-16 c = search needs
 
 returns-19 : tie.Need-returns-19
-returns-19 c = shown _ _ _ _ _ _ _ (c .before .before .before .before .before .enum-told17 .given .1) (c .before .before .put-word9 .ensures)
+returns-19 c = shown _ _ _ _ _ _ _ (c .before .before .before .before .enum-told17 .given .1) (c .before .before .put-ok8 .ensures)
 
 same-length-17 : tie.Need-same-length-17
 same-length-17 c = search needs
 
 returns-20 : tie.Need-returns-20
-returns-20 c = shown _ _ _ _ _ _ _ (c .before .before .before .before .before .enum-told18 .given .1) (c .before .before .put-word10 .ensures)
+returns-20 c = shown _ _ _ _ _ _ _ (c .before .before .before .before .enum-told18 .given .1) (c .before .before .put-ok9 .ensures)
 
 pub show-spec : {M : Type 1} → statement M
 show-spec =
@@ -347,32 +335,23 @@ show-spec =
     level-of-requires
     put-two-requires-3
     enum-told-10
-    slice-aggregate-put-word-2
-    put-word-requires-2
+    put-ok-requires
     enum-told-11
-    slice-aggregate-put-word-3
-    put-word-requires-3
+    put-ok-requires-2
     enum-told-12
-    slice-aggregate-put-word-4
-    put-word-requires-4
+    put-ok-requires-3
     enum-told-13
-    slice-aggregate-put-word-5
-    put-word-requires-5
+    put-ok-requires-4
     enum-told-14
-    slice-aggregate-put-word-6
-    put-word-requires-6
+    put-ok-requires-5
     enum-told-15
-    slice-aggregate-put-word-7
-    put-word-requires-7
+    put-ok-requires-6
     enum-told-16
-    slice-aggregate-put-word-8
-    put-word-requires-8
+    put-ok-requires-7
     enum-told-17
-    slice-aggregate-put-word-9
-    put-word-requires-9
+    put-ok-requires-8
     enum-told-18
-    slice-aggregate-put-word-10
-    put-word-requires-10
+    put-ok-requires-9
     returns
     returns-2
     returns-3
