@@ -31,7 +31,7 @@ pub flag-back : (b : Bool) → flagOf (flagNumber b) ≡ b
 flag-back true = refl
 flag-back false = refl
 
-flag-number : (n : ℕ) → n ≤ 1 → flagNumber (flagOf n) ≡ n
+pub flag-number : (n : ℕ) → n ≤ 1 → flagNumber (flagOf n) ≡ n
 flag-number zero h = refl
 flag-number (suc zero) h = refl
 flag-number (suc (suc n)) h = absurd (omega arith)

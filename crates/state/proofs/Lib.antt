@@ -3,3 +3,4 @@ pub mod Validity
 pub mod Fields
 pub mod Events
 pub mod Kept
+pub mod Whole

@@ -1,0 +1,26 @@
+-- Replay, agreement and a right answer, over any state, exchange and step.
+use Prim.Native.Nat.{ℕ, _-_, _≤_}
+use mathlib.Core.Path.{_≡_}
+use mathlib.Core.List.{List, [], _∷_}
+use lib.ListN.{length, take}
+
+-- "`fits N` (N exchanges), `refuted at I of N` (I counts from 1)"
+pub data Answer : Type 0 where
+  fits : ℕ → Answer
+  refuted : ℕ → ℕ → Answer
+
+module _ {S E : Type 0} (step : S → E → S) (Agree : S → E → Type 0) where
+  -- "Exchange by exchange": each gets the state that the last one returned
+  abbrev pub AllAgree : S → List E → Type 0
+  AllAgree s [] = Unit {0}
+  AllAgree s (e ∷ es) = Agree s e × AllAgree (step s e) es
+
+  -- "for some such record all .. agree"
+  abbrev pub SomeAgrees : (S → Type 0) → List E → Type 0
+  SomeAgrees Start es = (s : S) × Start s × AllAgree s es
+
+-- "The answer is `fits N` exactly when for some such record all N agree. Otherwise it is `refuted at I of N`, where for some
+-- such record all exchanges before I agree, and for none all up to and including I."
+abbrev pub Right : {E : Type 0} → (List E → Type 0) → List E → Answer → Type 0
+Right Some es (fits n) = (n ≡ length es) × Some es
+Right Some es (refuted i n) = (n ≡ length es) × (1 ≤ i) × (i ≤ n) × Some (take (i - 1) es) × (Some (take i es) → ⊥)
