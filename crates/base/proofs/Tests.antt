@@ -10,8 +10,8 @@ use native.Mathlib.Numerals.{add-one}
 use lib.Dec.{leb, ltb}
 use lib.ListN.{length, drop, getD, drop-of-length-le}
 use lib.Seq.{drop-cons}
-use borrow.Author.Tests.{le-leb, leb-true, ltb-true, ltb-false, eq-eqb, ne-eqb}
-use Rattle.base.specs.Test.{between, member}
+use borrow.Author.Tests.{le-leb, lt-leb, leb-true, ltb-true, ltb-false, eq-eqb, ne-eqb}
+use Rattle.base.specs.Test.{between, allBetween, member}
 
 pub and-yes : (a b : Bool) → a ≡ true → b ≡ true → (a && b) ≡ true
 and-yes true b p q = q
@@ -72,3 +72,22 @@ member-found n s i h e = ap (member n) (drop-cons s i 0 h) ∙ simp (eq-eqb n (g
 
 pub member-turn : (n : ℕ) (s : List ℕ) (i : ℕ) → i < length s → (n ≡ getD s i 0 → ⊥) → member n (drop i s) ≡ member n (drop (i + 1) s)
 member-turn n s i h e = ap (member n) (drop-cons s i 0 h) ∙ simp (ne-eqb n (getD s i 0) e, add-one)
+
+-- ---- each of several: the rest of the list from place i on
+module _ (low high : ℕ) (s : List ℕ) (i : ℕ) (r : Bool) where
+  all-turn : i < length s → allBetween low high (drop i s) ≡ (between low high (getD s i 0) && allBetween low high (drop (i + 1) s))
+  unfolding allBetween
+  all-turn h = ap (allBetween low high) (drop-cons s i 0 h) ∙ rw add-one refl
+
+  pub all-low : i < length s → getD s i 0 < low → allBetween low high (drop i s) ≡ r → false ≡ r
+  all-low h l e = sym (all-turn h ∙ simp (lt-leb _ _ l)) ∙ e
+
+  pub all-high : i < length s → low ≤ getD s i 0 → high < getD s i 0 → allBetween low high (drop i s) ≡ r → false ≡ r
+  all-high h l u e = sym (all-turn h ∙ simp (le-leb _ _ l, lt-leb _ _ u)) ∙ e
+
+  pub all-again : i < length s → low ≤ getD s i 0 → getD s i 0 ≤ high → allBetween low high (drop i s) ≡ r → allBetween low high (drop (i + 1) s) ≡ r
+  all-again h l u e = sym (all-turn h ∙ simp (le-leb _ _ l, le-leb _ _ u)) ∙ e
+
+  pub all-done : length s ≤ i → allBetween low high (drop i s) ≡ r → true ≡ r
+  unfolding allBetween
+  all-done h e = sym (ap (allBetween low high) (drop-of-length-le s h)) ∙ e

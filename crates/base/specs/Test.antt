@@ -22,3 +22,8 @@ between low high x = leb low x && leb x high
 abbrev pub member : ℕ → List ℕ → Bool
 member n [] = false
 member n (m ∷ ms) = eqb n m || member n ms
+
+-- each of several numbers is one of low to high
+unfoldable pub allBetween : ℕ → ℕ → List ℕ → Bool
+allBetween low high [] = true
+allBetween low high (x ∷ xs) = between low high x && allBetween low high xs

@@ -11,7 +11,7 @@ use lib.Dec.{eqb}
 use lib.ListN.{length, take, drop, getD, length-append, length-drop, length-take, drop-of-length-le, List·getD-eq-default}
 use lib.Seq.{take-all, length-take-le, drop-drop}
 use borrow.Author.Tests.{le-leb, lt-leb, eq-eqb, ne-eqb, eqb-true, not-true, not-false}
-use Rattle.base.specs.Test.{pick, between, member}
+use Rattle.base.specs.Test.{pick, between, member, allBetween}
 use Rattle.base.proofs.Tests.{and-yes, and-left, and-right, between-yes, between-low, between-high}
 use Rattle.frame.specs.Frame.{isDigit}
 use Rattle.frame.proofs.Laws.{next}
@@ -42,17 +42,17 @@ pub record Digit (x : ℕ) : Type 0 where
   pub high : x ≤ 0x39
 
 digit-first : (x : ℕ) (xs : List ℕ) → allDigits (x ∷ xs) ≡ true → Digit x
-unfolding allDigits
+unfolding allBetween
 digit-first x xs h =
     let d : isDigit x ≡ true = and-left (isDigit x) (allDigits xs) h in
     record { low = between-low 0x30 0x39 x d; high = between-high 0x30 0x39 x d }
 
 digit-rest : (x : ℕ) (xs : List ℕ) → allDigits (x ∷ xs) ≡ true → allDigits xs ≡ true
-unfolding allDigits
+unfolding allBetween
 digit-rest x xs h = and-right (isDigit x) (allDigits xs) h
 
 digit-more : (x : ℕ) (xs : List ℕ) → Digit x → allDigits xs ≡ true → allDigits (x ∷ xs) ≡ true
-unfolding allDigits
+unfolding allBetween
 digit-more x xs d h = and-yes (isDigit x) (allDigits xs) (between-yes 0x30 0x39 x (d .low) (d .high)) h
 
 digits-append : (xs ys : List ℕ) → allDigits xs ≡ true → allDigits ys ≡ true → allDigits (xs ++ ys) ≡ true
@@ -71,7 +71,7 @@ digits-length zero n = refl
 digits-length (suc w) n = omega (arith, length-append (digits w (n / 10)) ((0x30 + n % 10) ∷ []), digits-length w (n / 10))
 
 pub digits-all : (w n : ℕ) → allDigits (digits w n) ≡ true
-unfolding digits allDigits
+unfolding digits allBetween
 digits-all zero n = refl
 digits-all (suc w) n =
     digits-append (digits w (n / 10)) ((0x30 + n % 10) ∷ []) (digits-all w (n / 10))
@@ -118,25 +118,6 @@ pub equal-same : (xs : List ℕ) → equal xs xs ≡ true
 unfolding equal
 equal-same [] = refl
 equal-same (x ∷ xs) = and-yes (eqb x x) (equal xs xs) (eq-eqb x x refl) (equal-same xs)
-
--- ---- the loop of `all_digits`
-digits-turn : (s : List ℕ) (i : ℕ) → i < length s → allDigits (drop i s) ≡ (isDigit (getD s i 0) && allDigits (drop (i + 1) s))
-unfolding allDigits
-digits-turn s i h = ap allDigits (next s i h)
-
-pub digits-low : (s : List ℕ) (i : ℕ) (r : Bool) → i < length s → getD s i 0 < 0x30 → allDigits (drop i s) ≡ r → false ≡ r
-digits-low s i r h l e = sym (digits-turn s i h ∙ simp (lt-leb _ _ l)) ∙ e
-
-pub digits-high : (s : List ℕ) (i : ℕ) (r : Bool) → i < length s → 0x30 ≤ getD s i 0 → 0x39 < getD s i 0 → allDigits (drop i s) ≡ r → false ≡ r
-digits-high s i r h l u e = sym (digits-turn s i h ∙ simp (le-leb _ _ l, lt-leb _ _ u)) ∙ e
-
-pub digits-again : (s : List ℕ) (i : ℕ) (r : Bool) → i < length s → 0x30 ≤ getD s i 0 → getD s i 0 ≤ 0x39 → allDigits (drop i s) ≡ r
-    → allDigits (drop (i + 1) s) ≡ r
-digits-again s i r h l u e = sym (digits-turn s i h ∙ simp (le-leb _ _ l, le-leb _ _ u)) ∙ e
-
-pub digits-done : (s : List ℕ) (i : ℕ) (r : Bool) → length s ≤ i → allDigits (drop i s) ≡ r → true ≡ r
-unfolding allDigits
-digits-done s i r h e = sym (ap allDigits (drop-of-length-le s h)) ∙ e
 
 -- ---- the loop of `value`: n is the number of the first i digits
 pub record Reading (s : List ℕ) (n i : ℕ) : Type 0 where

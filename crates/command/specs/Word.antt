@@ -4,7 +4,7 @@ use mathlib.Core.Bool.{Bool, true, false, _&&_, _||_}
 use mathlib.Core.List.{List, [], _∷_, _++_}
 use lib.Dec.{eqb}
 use lib.ListN.{length}
-use Rattle.frame.specs.Frame.{isDigit}
+use Rattle.base.specs.Test.{allBetween}
 
 abbrev pub space : ℕ
 space = 0x20
@@ -16,9 +16,8 @@ unfoldable pub digits : ℕ → ℕ → List ℕ
 digits zero n = []
 digits (suc w) n = digits w (n / 10) ++ ((0x30 + n % 10) ∷ [])
 
-unfoldable pub allDigits : List ℕ → Bool
-allDigits [] = true
-allDigits (x ∷ xs) = isDigit x && allDigits xs
+abbrev pub allDigits : List ℕ → Bool
+allDigits xs = allBetween 0x30 0x39 xs
 
 -- the number that digits are, behind those that make a
 unfoldable pub valueFrom : ℕ → List ℕ → ℕ

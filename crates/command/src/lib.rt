@@ -109,17 +109,7 @@ const SPACE: u8 = 0x20;
 fn all_digits(s: &[u8]) -> bool
     ensures { λ b. ⌜ b ≡ allDigits (now (s .entry)) ⌝ }
 {
-    let mut i = 0;
-    while i < s.len() {
-        if s[i] < b'0' {
-            return false;
-        }
-        if b'9' < s[i] {
-            return false;
-        }
-        i += 1;
-    }
-    true
+    base::all_between(b'0', b'9', s)
 }
 
 // The number that at most eight digits are.

@@ -7,6 +7,7 @@ use mathlib.Core.Logic.{⊎-elim}
 use native.Mathlib.Omega.{arith}
 use lib.ListN.{length}
 use borrow.Author.Tests.{le-leb, eq-eqb, ne-eqb, lt-ltb}
+use Rattle.base.specs.Test.{allBetween}
 use Rattle.state.specs.declared.Record.{Record}
 use Rattle.state.specs.declared.Place.the-variants.{At}
 use Rattle.state.specs.Parameter.{recipes, parameterCount, placeOf}
@@ -127,28 +128,28 @@ module _ (k : Kind) (s : Record) (o : List ℕ) (v : valid s ≡ true) (room : 6
   two c d h = text-wider 2 2 2 58 (word c d) (omega arith) (omega arith) (text-word (word c d) h)
 
   pub status-read : Answers (word 0x45 0x51) (statusCharacters s)
-  unfolding verdictFor guarded allText
+  unfolding verdictFor guarded allBetween
   status-read = answers 0x45 0x51 [] Status refl refl (two 0x45 0x51 refl) (status-asked (s .address)) refl refl
 
   pub codes-read : Answers (word 0x52 0x53) (word 0x52 0x53 ++ (space ∷ codesOn statusCodes s))
-  unfolding verdictFor guarded allText
+  unfolding verdictFor guarded allBetween
   codes-read = answers 0x52 0x53 [] Codes refl refl (two 0x52 0x53 refl) (codes-asked (s .address)) refl refl
 
   pub number-read : Answers (word 0x54 0x4e) (spaced (word 0x54 0x4e ∷ digits 4 (get number s) ∷ []))
-  unfolding verdictFor guarded allText
+  unfolding verdictFor guarded allBetween
   number-read = answers 0x54 0x4e [] Number refl refl (two 0x54 0x4e refl) (number-asked (s .address)) refl refl
 
   pub recipe-read : Answers (word 0x52 0x52) (spaced (word 0x52 0x52 ∷ digits 2 (get recipe s) ∷ []))
-  unfolding verdictFor guarded allText
+  unfolding verdictFor guarded allBetween
   recipe-read = answers 0x52 0x52 [] Recipe refl refl (two 0x52 0x52 refl) (recipe-asked (s .address)) refl refl
 
   pub composition-read : Answers (word 0x52 0x43)
       (spaced (word 0x52 0x43 ∷ digits 2 (get recipe s) ∷ digits 8 (get (value (factorPlace (get recipe s))) s) ∷ []))
-  unfolding verdictFor guarded allText
+  unfolding verdictFor guarded allBetween
   composition-read = answers 0x52 0x43 [] Composition refl refl (two 0x52 0x43 refl) (composition-asked (s .address)) refl refl
 
   pub raw-read : Answers (spaced (word 0x52 0x54 ∷ R-word ∷ [])) (spaced (word 0x52 0x54 ∷ R-word ∷ digits 8 (get raw s) ∷ []))
-  unfolding verdictFor guarded allText
+  unfolding verdictFor guarded allBetween
   raw-read =
       let t : List ℕ = 0x52 ∷ 0x54 ∷ 0x20 ∷ 0x52 ∷ [] in
       answers 0x52 0x54 (0x20 ∷ 0x52 ∷ []) Raw refl refl (text-wider 4 4 2 58 t (omega arith) (omega arith) (text-word t refl)) (raw-asked (s .address)) refl refl
@@ -161,13 +162,13 @@ module _ (k : Kind) (s : Record) (o : List ℕ) (v : valid s ≡ true) (room : 6
     coded c d h = text-wider 6 6 2 58 _ (omega arith) (omega arith) (text-labelled (c ∷ d ∷ space ∷ []) 3 p h)
 
     pub value-read : Answers (spaced (word 0x50 0x56 ∷ digits 3 p ∷ [])) (spaced (word 0x50 0x56 ∷ digits 3 p ∷ digits 8 (get (value (placeFor p)) s) ∷ []))
-    unfolding verdictFor guarded allText
+    unfolding verdictFor guarded allBetween
     value-read =
         answers 0x50 0x56 (space ∷ digits 3 p) (Value p) refl refl (coded 0x50 0x56 refl) (value-asked (s .address) p (code-small p i e))
         (simp (e, lt-ltb i parameterCount listed-so)) refl
 
     pub level-read : Answers (spaced (word 0x58 0x56 ∷ digits 3 p ∷ [])) (spaced (word 0x58 0x56 ∷ digits 3 p ∷ digits 1 (get (level (placeFor p)) s) ∷ []))
-    unfolding verdictFor guarded allText
+    unfolding verdictFor guarded allBetween
     level-read =
         answers 0x58 0x56 (space ∷ digits 3 p) (Level p) refl refl (coded 0x58 0x56 refl) (level-asked (s .address) p (code-small p i e))
         (simp (e, lt-ltb i parameterCount listed-so)) refl

@@ -7,6 +7,7 @@ use mathlib.Core.Path.{_≡_, refl}
 use mathlib.Core.List.{List, [], _∷_, _++_, map}
 use lib.ListN.{length, take, replicate}
 use lib.Bits.{bitXor}
+use Rattle.base.specs.Test.{allBetween}
 use Rattle.state.specs.declared.Record.{Record}
 use Rattle.state.specs.Parameter.{placeIn, placeOf, rangeAt}
 use Rattle.state.specs.Field.{phaseOf, put}
@@ -93,5 +94,5 @@ replies r [] = []
 replies r (q ∷ qs) = heard (called r q) ∷ replies (called r q .after) qs
 
 pub worked : replies bench (map (λ s. s .request) table) ≡ map (λ s. (length (s .reply), s .reply)) table
-unfolding replies bytes check bench callOf valid allIn rangeAt placeOf placeIn withinLimits marksRight checkRight xorFrom textIn allText namesUnit addressIn frameOf over replyText recordAfter verdict firstOf codeIn formed digitsBetween allDigits valueFrom equal parameterIn commands.placeIn numberIn secondIn rowOf digits statusCharacters codesOn applied put phaseOf
+unfolding replies bytes check bench callOf valid allIn rangeAt placeOf placeIn withinLimits marksRight checkRight xorFrom textIn allBetween namesUnit addressIn frameOf over replyText recordAfter verdict firstOf codeIn formed digitsBetween valueFrom equal parameterIn commands.placeIn numberIn secondIn rowOf digits statusCharacters codesOn applied put phaseOf
 worked = refl

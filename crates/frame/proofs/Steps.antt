@@ -18,7 +18,7 @@ use Rattle.frame.specs.declared.Kind.the-variants.{Minicomputer, Termina
 use Rattle.frame.specs.declared.Silence.{Silence}
 use Rattle.frame.specs.declared.Located.{Located}
 use Rattle.frame.specs.declared.Located.the-variants as located
-use Rattle.frame.specs.Frame.{stx, etx, pad, star, cr, lf, isText, isDigit, isCapital, allText, namesUnit, addressIn, xorFrom, checkOf, frameOf, tailOf, textIn, withinLimits, fromEnd, marksRight, checkRight}
+use Rattle.frame.specs.Frame.{stx, etx, pad, star, cr, lf, isDigit, isCapital, allText, namesUnit, addressIn, xorFrom, checkOf, frameOf, tailOf, textIn, withinLimits, fromEnd, marksRight, checkRight}
 use Rattle.frame.specs.Numbers.{H, S, accepted, unit, silenceNumber, locatedAs}
 use Rattle.frame.specs.Answer.{buildOf, locateOf, readOf, addressOf}
 use Rattle.base.specs.Lists.{over}
@@ -32,25 +32,6 @@ xor-again s a b i h e = sym (ap (xorFrom a) (next s i h)) ∙ e
 pub xor-done : (s : List ℕ) (a b i : ℕ) → length s ≤ i → xorFrom a (drop i s) ≡ b → a ≡ b
 unfolding xorFrom
 xor-done s a b i h e = sym (ap (xorFrom a) (drop-of-length-le s h)) ∙ e
-
--- ---- the loop of `printable`
-text-turn : (s : List ℕ) (i : ℕ) → i < length s → allText (drop i s) ≡ (isText (getD s i 0) && allText (drop (i + 1) s))
-unfolding allText
-text-turn s i h = ap allText (next s i h)
-
-pub text-low : (s : List ℕ) (i : ℕ) (r : Bool) → i < length s → getD s i 0 < 0x20 → allText (drop i s) ≡ r → false ≡ r
-text-low s i r h l e = sym (text-turn s i h ∙ simp (lt-leb _ _ l)) ∙ e
-
-pub text-high : (s : List ℕ) (i : ℕ) (r : Bool) → i < length s → 0x20 ≤ getD s i 0 → 0x7e < getD s i 0 → allText (drop i s) ≡ r → false ≡ r
-text-high s i r h l u e = sym (text-turn s i h ∙ simp (le-leb _ _ l, lt-leb _ _ u)) ∙ e
-
-pub text-again : (s : List ℕ) (i : ℕ) (r : Bool) → i < length s → 0x20 ≤ getD s i 0 → getD s i 0 ≤ 0x7e → allText (drop i s) ≡ r
-    → allText (drop (i + 1) s) ≡ r
-text-again s i r h l u e = sym (text-turn s i h ∙ simp (le-leb _ _ l, le-leb _ _ u)) ∙ e
-
-pub text-done : (s : List ℕ) (i : ℕ) (r : Bool) → length s ≤ i → allText (drop i s) ≡ r → true ≡ r
-unfolding allText
-text-done s i r h e = sym (ap allText (drop-of-length-le s h)) ∙ e
 
 -- ---- the loop of `lay`
 

@@ -3,7 +3,7 @@ use Prim.Native.Nat.{ℕ, _+_, _-_, _*_}
 use mathlib.Core.List.{List, [], _∷_, _++_}
 use mathlib.Core.Bool.{Bool, true, _&&_}
 use lib.Dec.{eqb}
-use Rattle.base.specs.Test.{between}
+use Rattle.base.specs.Test.{between, allBetween}
 use lib.ListN.{length, drop, take, getD}
 use lib.Bits.{bitXor}
 use Rattle.frame.specs.declared.Kind.{Kind}
@@ -30,12 +30,8 @@ lf = 0x0a
 
 -- ---- the text: "4 to 60 bytes, each 0x20..0x7E"
 
-abbrev pub isText : ℕ → Bool
-isText x = between 0x20 0x7e x
-
-unfoldable pub allText : List ℕ → Bool
-allText [] = true
-allText (x ∷ xs) = isText x && allText xs
+abbrev pub allText : List ℕ → Bool
+allText xs = allBetween 0x20 0x7e xs
 
 -- "two address digits, two capital letters": of the text's first four bytes
 abbrev pub isDigit : ℕ → Bool

@@ -115,17 +115,7 @@ pub fn check(s: &[u8]) -> u8
 pub fn printable(s: &[u8]) -> bool
     ensures { λ r. ⌜ r ≡ allText (now (s .entry)) ⌝ }
 {
-    let mut i = 0;
-    while i < s.len() {
-        if s[i] < 0x20 {
-            return false;
-        }
-        if 0x7e < s[i] {
-            return false;
-        }
-        i += 1;
-    }
-    true
+    base::all_between(0x20, 0x7e, s)
 }
 
 // Copies all of src to the start of dst.

@@ -6,7 +6,7 @@ use mathlib.Core.List.{List, [], _∷_}
 use mathlib.Core.Logic.{⊎-elim}
 use native.Mathlib.Numerals.{add-one}
 use native.Mathlib.Omega.{arith}
-use lib.Dec.{leb, ltb, eqb}
+use lib.Dec.{leb, eqb}
 use lib.ListN.{length, take, drop, getD, length-drop, drop-of-length-le}
 use lib.Seq.{drop-cons, drop-drop}
 use borrow.Author.Tests.{le-leb, lt-leb, lt-ltb, le-ltb, eq-eqb, ne-eqb, not-true, not-false}
@@ -17,7 +17,7 @@ use Rattle.recording.specs.declared.Next.{Next}
 use Rattle.recording.specs.declared.Next.the-variants as next
 use Rattle.recording.specs.declared.Count.{Count}
 use Rattle.recording.specs.declared.Count.the-variants as count
-use Rattle.recording.specs.Form.{Exchange, Exchanges, whole, cut, before, replyAndRest, exchangesIn, spans, exchangeAt, recordingOf, withHeader, Summary, J-number, counted, summary, countOf}
+use Rattle.recording.specs.Form.{Exchange, Exchanges, whole, cut, before, replyAndRest, exchangesIn, spans, exchangeAt, recordingOf, withHeader, J-number, counted, summary, countOf}
 
 -- ---- what stands at a place
 pub at-end : (s : List ℕ) (at : ℕ) → length s ≤ at → exchangeAt s at ≡ next.End
@@ -63,7 +63,10 @@ pub record Within (s : List ℕ) (at : ℕ) (p : Spans) : Type 0 where
   pub inside : p .end ≤ length s
 
 pub within : (s : List ℕ) (at : ℕ) (p : Spans) → exchangeAt s at ≡ next.Exchange p → Within s at p
-within s at p e = subst WithinAt e (by-place s at WithinAt (λ h. tt) (λ h g. tt) (λ h g f. tt) (λ h g f. record { first = refl; asked = omega arith; between = omega arith; answered = omega arith; inside = f }))
+within s at p e =
+    subst WithinAt e
+    (by-place s at WithinAt (λ h. tt) (λ h g. tt) (λ h g f. tt)
+    (λ h g f. record { first = refl; asked = omega arith; between = omega arith; answered = omega arith; inside = f }))
   where
     WithinAt : Next → Type 0
     WithinAt next.End = Unit {0}
@@ -175,16 +178,18 @@ module _ (s : List ℕ) (at : ℕ) (h : at < length s) where
         let k : (at + 2 + n + m) - (at + 2 + n) ≡ m = omega arith in
         from-request ∙ simp (i, le-leb _ _ l, j, k)
 
+-- for every place: the exchange that stands there and those from its end on, or the end, or a cut
 pub unroll : (s : List ℕ) (at : ℕ) → exchangesIn (length s) (drop at s) ≡ unrolled s (exchangeAt s at)
 unroll s at =
     by-place s at (λ (x : Next). exchangesIn (length s) (drop at s) ≡ unrolled s x)
     (λ h. ap (exchangesIn (length s)) (drop-of-length-le s h) ∙ none-left (length s)) (cut-in-request s at) (cut-in-reply s at) (one-more s at)
 
--- ---- counting: n exchanges stand before the place
+-- ---- counting
 abbrev pub more : ℕ → Count → Count
 more n (count.Whole k) = count.Whole (n + k)
 more n count.Cut = count.Cut
 
+-- n exchanges stand before the place
 pub record Counted (s : List ℕ) (at n : ℕ) : Type 0 where
   pub inside : at ≤ length s
   pub few : n ≤ at
@@ -236,13 +241,9 @@ by-count a c k (whole es) e = let z : length es ≡ k = cc in ap (counted a c) z
 by-count a c k cut e = let z : _≡_ {A = ℕ} 0 1 = cc in absurd (omega arith)
 
 -- ---- reading, one law for each return
-pub read-short : (s : List ℕ) → length s < 5 → J-number 1 ≡ summary (recordingOf s)
+pub read-size : (s : List ℕ) → (5 ≤ length s → length s ≤ 65535 → ⊥) → J-number 1 ≡ summary (recordingOf s)
 unfolding recordingOf
-read-short s h = simp (between-no 5 65535 (length s) (λ p q. omega arith))
-
-pub read-long : (s : List ℕ) → 65535 < length s → J-number 1 ≡ summary (recordingOf s)
-unfolding recordingOf
-read-long s h = simp (between-no 5 65535 (length s) (λ p q. omega arith))
+read-size s h = simp (between-no 5 65535 (length s) h)
 
 module _ (s : List ℕ) (low : 5 ≤ length s) (high : length s ≤ 65535) where
   size : between 5 65535 (length s) ≡ true

@@ -14,14 +14,14 @@ use borrow.Author.Tests.{le-leb, lt-leb, eqb-true}
 use Rattle.state.specs.declared.Place.{Place}
 use Rattle.state.specs.declared.Place.the-variants.{At}
 use Rattle.state.specs.declared.Record.{Record}
-use Rattle.base.specs.Test.{pick, member}
+use Rattle.base.specs.Test.{pick, between, member, allBetween}
 use Rattle.state.specs.Parameter.{parameterCount, placeOf}
 use Rattle.state.specs.Field.{keypad, flow, changed, reset, powerfail, recipe, get, flagNumber, phaseNumber}
 use Rattle.state.specs.Event.{running, stopped, done}
 use Rattle.state.specs.Event as event
 use Rattle.base.proofs.Tests.{and-yes, and-left, and-right, below-or-not, between-yes}
 use Rattle.state.proofs.Fields.{flag-back}
-use Rattle.frame.specs.Frame.{isText, allText}
+use Rattle.frame.specs.Frame.{allText}
 use Rattle.base.specs.Lists.{over}
 use Rattle.command.specs.declared.Request.{Request}
 use Rattle.command.specs.declared.Request.the-variants.{Unknown, Malformed, NotServed, Status, Codes, Number, Recipe, Composition, Raw, Value, Level, SetValue, SetLevel, SelectRecipe, SetBatch, Start, Stop, End, ClearReset, ClearChanged}
@@ -272,10 +272,10 @@ pub text-wider : (a b a′ b′ : ℕ) (t : List ℕ) → a′ ≤ a → b ≤ b
 text-wider a b a′ b′ t h k f = record { low = omega arith; high = omega arith; bytes = f .bytes }
 
 all-text-append : (xs ys : List ℕ) → allText xs ≡ true → allText ys ≡ true → allText (xs ++ ys) ≡ true
-unfolding allText
+unfolding allBetween
 all-text-append [] ys p q = q
 all-text-append (x ∷ xs) ys p q =
-    and-yes (isText x) (allText (xs ++ ys)) (and-left (isText x) (allText xs) p) (all-text-append xs ys (and-right (isText x) (allText xs) p) q)
+    and-yes (between 0x20 0x7e x) (allText (xs ++ ys)) (and-left (between 0x20 0x7e x) (allText xs) p) (all-text-append xs ys (and-right (between 0x20 0x7e x) (allText xs) p) q)
 
 pub text-joined : (a b a′ b′ : ℕ) (xs ys : List ℕ) → Text a b xs → Text a′ b′ ys → Text (a + a′) (b + b′) (xs ++ ys)
 text-joined a b a′ b′ xs ys f g =
@@ -289,11 +289,11 @@ pub text-word : (w : List ℕ) → allText w ≡ true → Text (length w) (lengt
 text-word w h = record { low = omega arith; high = omega arith; bytes = h }
 
 one-text : (x : ℕ) (xs : List ℕ) → 0x20 ≤ x → x ≤ 0x7e → allText xs ≡ true → allText (x ∷ xs) ≡ true
-unfolding allText
-one-text x xs h k p = and-yes (isText x) (allText xs) (between-yes 0x20 0x7e x h k) p
+unfolding allBetween
+one-text x xs h k p = and-yes (between 0x20 0x7e x) (allText xs) (between-yes 0x20 0x7e x h k) p
 
 no-text : allText [] ≡ true
-unfolding allText
+unfolding allBetween
 no-text = refl
 
 digits-bytes : (w n : ℕ) → allText (digits w n) ≡ true
@@ -426,12 +426,12 @@ short : (n : ℕ) (t : List ℕ) → 2 ≤ n → n ≤ 27 → Text n n t → Tex
 short n t h k f = text-wider n n 2 27 t h k f
 
 ok-text : Text 2 27 OK
-unfolding allText
+unfolding allBetween
 ok-text = short 2 OK (omega arith) (omega arith) (text-word OK refl)
 
 -- what is shown
 pub text-shown : (q : Request) (r : Record) → served q ≡ true → Text 2 27 (shows q r)
-unfolding allText
+unfolding allBetween
 text-shown Unknown r h = absurd (false≢true h)
 text-shown Malformed r h = absurd (false≢true h)
 text-shown NotServed r h = absurd (false≢true h)
@@ -457,7 +457,7 @@ text-shown ClearChanged r h = ok-text
 
 -- a reply's text is legal in a frame: "4 to 60 bytes, each 0x20..0x7E"
 pub text-legal : (v : Verdict) (q : Request) (r : Record) → answers v q ≡ true → Text 4 29 (textFor v q r)
-unfolding textFor allText
+unfolding textFor allBetween
 text-legal (NO n) q r h =
     text-wider 6 6 4 29 _ (omega arith) (omega arith)
     (text-joined 2 2 4 4 (digits 2 (r .address)) (labelled (0x4e ∷ 0x4f ∷ []) 2 n) (text-digits 2 (r .address)) (text-labelled (0x4e ∷ 0x4f ∷ []) 2 n refl))

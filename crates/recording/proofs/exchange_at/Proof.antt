@@ -1,13 +1,20 @@
 -- `recording::exchange_at` meets its contract, one law of `Laws` for each return; a byte is below 256. Assumes nothing.
-use mathlib.Core.Path.{sym}
 use Prim.Native.Nat.{ℕ, _+_}
+use mathlib.Core.Path.{sym}
 use mathlib.Core.List.{List}
-use lib.ListN.{getD}
 use native.Mathlib.Omega.{arith}
-use Rattle.recording.proofs.Laws.{at-end, at-cut-request, at-cut-reply, at-exchange}
+use lib.ListN.{getD}
 use borrow.Author.Needs.{needs}
+use Rattle.recording.proofs.Laws.{at-end, at-cut-request, at-cut-reply, at-exchange}
 use Rattle.recording.proofs.exchange_at.Statement.{statement}
 use Rattle.recording.proofs.exchange_at.Tie as tie
+
+-- the place of the reply's length byte
+abbrev second : tie.After-shared-slice-known2 → ℕ
+second c =
+    let s : List ℕ = c .before .before .before .before .args .s .now in
+    let at : ℕ = c .before .before .before .before .args .at in
+    at + 1 + getD s at 0
 
 returns : tie.Need-returns
 returns c = sym (at-end _ _ (search needs))
@@ -37,19 +44,13 @@ shared-slice-read-reply : tie.Need-shared-slice-read-reply
 shared-slice-read-reply c = search needs
 
 cast-reply : tie.Need-cast-reply
-cast-reply c =
-    let s : List ℕ = c .before .before .before .before .args .s .now in
-    let at : ℕ = c .before .before .before .before .args .at in
-    omega (arith, c .shared-slice-known2 .given (at + 1 + getD s at 0))
+cast-reply c = omega (arith, c .shared-slice-known2 .given (second c))
 
 add-if3 : tie.Need-add-if3
 add-if3 c = search needs
 
 add-if3-2 : tie.Need-add-if3-2
-add-if3-2 c =
-    let s : List ℕ = c .before .before .before .before .args .s .now in
-    let at : ℕ = c .before .before .before .before .args .at in
-    omega (arith, c .shared-slice-known2 .given (at + 1 + getD s at 0))
+add-if3-2 c = omega (arith, c .shared-slice-known2 .given (second c))
 
 returns-3 : tie.Need-returns-3
 returns-3 c = sym (at-cut-reply _ _ (omega arith) (omega arith) (omega arith))

@@ -1,14 +1,15 @@
 -- `recording::read_recording` meets its contract, one law of `Laws` for each return. Assumes nothing.
-use Rattle.recording.proofs.Laws.{read-short, read-long, read-version, read-field, read-address, read-access, read-through, read-cut, read-whole}
+use native.Mathlib.Omega.{arith}
 use borrow.Author.Needs.{needs}
+use Rattle.recording.proofs.Laws.{read-size, read-version, read-field, read-address, read-access, read-through, read-cut, read-whole}
 use Rattle.recording.proofs.read_recording.Statement.{statement}
 use Rattle.recording.proofs.read_recording.Tie as tie
 
 returns : tie.Need-returns
-returns c = search read-short
+returns c = read-size _ (λ p q. omega arith)
 
 returns-2 : tie.Need-returns-2
-returns-2 c = search read-long
+returns-2 c = read-size _ (λ p q. omega arith)
 
 shared-slice-read-if3 : tie.Need-shared-slice-read-if3
 shared-slice-read-if3 c = search needs

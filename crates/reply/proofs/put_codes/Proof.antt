@@ -3,6 +3,7 @@ use mathlib.Core.Path.{refl}
 use native.Mathlib.Omega.{arith}
 use lib.ListN.{take, drop}
 use borrow.Author.Needs.{needs}
+use Rattle.base.specs.Test.{allBetween}
 use Rattle.frame.specs.Frame.{allText}
 use Rattle.command.specs.Status.{statusCodes}
 use Rattle.reply.proofs.Laws.{joined, laid-same, codes-append, text-codes}
@@ -13,7 +14,7 @@ put-flag-codes-requires : tie.Need-put-flag-codes-requires
 put-flag-codes-requires c κs = search needs
 
 put-phase-codes-requires : tie.Need-put-phase-codes-requires
-unfolding allText
+unfolding allBetween
 put-phase-codes-requires c κs =
     omega (arith, text-codes (take 5 statusCodes) (c .before .before .before .before .before .before .args .r) refl .high)
 
