@@ -1,8 +1,7 @@
-"""What the programs `bench` and `frames` have to write, worked out from document 01 alone.
+"""What the programs `bench`, `panel` and `frames` have to write, worked out from document 01 alone.
 
 It shares no code with the crates, and each case was worked out here before the program was run on it.
-Run it with Python 3: it prints the sections on frames, which stand in crates/frames/stdout, and the others, which stand in
-crates/bench/stdout.
+Run it with Python 3: it prints their sections, which stand in crates/bench/stdout, crates/panel/stdout and crates/frames/stdout.
 """
 
 import copy
@@ -444,7 +443,6 @@ record = after(record, "still")
 panel("still", record)
 record = end(record)
 panel("ended", record)
-scalars(record)
 
 # ---- building frames
 

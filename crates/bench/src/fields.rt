@@ -45,11 +45,6 @@ pub(crate) fn with_address(mut r: Record, address: u8) -> Record {
     r
 }
 
-pub(crate) fn with_preset(mut r: Record, preset: u32) -> Record {
-    r.preset = preset;
-    r
-}
-
 pub(crate) fn with_raw(mut r: Record, raw: u32) -> Record {
     r.raw = raw;
     r
@@ -57,11 +52,6 @@ pub(crate) fn with_raw(mut r: Record, raw: u32) -> Record {
 
 pub(crate) fn with_changed(mut r: Record) -> Record {
     r.changed = true;
-    r
-}
-
-pub(crate) fn with_keypad(mut r: Record) -> Record {
-    r.keypad = true;
     r
 }
 

@@ -2,7 +2,6 @@
 use crate::fields::bench;
 use crate::fields::flag;
 use crate::fields::phase;
-use crate::fields::scalars;
 use crate::fields::with_address;
 use crate::fields::with_keypad;
 use crate::fields::with_preset;
@@ -198,5 +197,4 @@ fn evening(nearly: Record) {
     shown(b"still", still);
     let ended = still.end();
     shown(b"ended", ended);
-    scalars(ended);
 }
