@@ -1,25 +1,24 @@
 -- The steps of the code give what the tables say. Assumes nothing.
-use Prim.Native.Nat.{ℕ, suc, _+_, _≤_, _<_}
-use mathlib.Core.Bool.{Bool, true, false, not, _&&_, _||_, or-false, and-true}
+use Prim.Native.Nat.{ℕ, _≤_, _<_}
+use mathlib.Core.Bool.{true, false, or-false, and-true}
 use mathlib.Core.Path.{_≡_, refl, sym, ap, _∙_}
 use mathlib.Core.List.{List, [], _∷_}
 use mathlib.Core.Logic.{⊎-elim}
 use native.Mathlib.Omega.{arith}
-use lib.Dec.{eqb, leb, ltb}
-use lib.ListN.{length, getD, drop}
+use lib.Dec.{eqb}
+use lib.ListN.{drop}
 use lib.Seq.{drop-drop}
-use borrow.Author.Tests.{eq-eqb, ne-eqb, eqb-true, eqb-false, le-leb, lt-leb, lt-ltb, le-ltb, not-true, not-false}
+use borrow.Author.Tests.{eq-eqb, ne-eqb, eqb-true, eqb-false, le-leb, lt-leb, lt-ltb, le-ltb}
 use Rattle.state.specs.declared.Record.{Record}
 use Rattle.state.specs.declared.Place.{Place}
 use Rattle.state.specs.declared.Place.the-variants.{At, Nothing}
-use Rattle.base.specs.Test.{pick, between, member}
+use Rattle.base.specs.Test.{between}
 use Rattle.state.specs.Parameter.{recipes, parameterCount, placeOf, rangeAt}
 use Rattle.state.specs.Valid.{within}
 use Rattle.base.proofs.Tests.{below-or-not}
-use Rattle.command.specs.declared.Request.{Request}
 use Rattle.command.specs.Word.{space, valueOf, equal, oneOf}
-use Rattle.command.specs.Commands.{EQ, RS, TN, RR, RC, RT, PV, XV, PC, XC, NR, SB, SA, SP, ET, RE, codeIn, Form, numbers, words, nothing, parameter, parameterAnd, aNumber, formed, rowOf, commands, Change, applied, behindSpace, BD, PC-word, R-word, word, argument, placeIn, parameterIn, numberIn, secondIn}
-use Rattle.command.specs.Answer.{Verdict, NO, accepted, firstOf, verdict, replyFor, recordFor, replyText, recordAfter}
+use Rattle.command.specs.Commands.{EQ, RS, TN, RR, RC, RT, PV, XV, PC, XC, NR, SB, SA, SP, ET, RE, codeIn, Form, nothing, parameter, parameterAnd, aNumber, formed, rowOf, commands, Change, applied, behindSpace, BD, PC-word, R-word, word, argument, placeIn, parameterIn, numberIn, secondIn}
+use Rattle.command.specs.Answer.{Verdict, NO, accepted, firstOf, verdict, replyFor, recordFor, recordAfter}
 use Rattle.command.specs.Request.{volumeOf, flagOf, requestFor, requestOf, guarded, verdictFor, shows, changes, replyTo, recordTo}
 use Rattle.command.proofs.Parsing.{equal-true, words-behind, differs, absent, codes, unknown}
 use Rattle.command.proofs.Deciding.{place-below}

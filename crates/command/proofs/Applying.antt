@@ -1,17 +1,17 @@
 -- What an accepted request changes, as the code stores it. Assumes nothing.
-use Prim.Native.Nat.{ℕ, _≤_, _<_}
+use Prim.Native.Nat.{ℕ, _≤_}
 use mathlib.Core.Bool.{Bool, true, false}
 use mathlib.Core.Path.{_≡_, refl, sym, ap, _∙_}
-use mathlib.Core.List.{List, [], _∷_}
+use mathlib.Core.List.{List}
 use native.Mathlib.Omega.{arith}
 use lib.Dec.{leb}
 use lib.ListN.{length, set}
 use lib.Seq.{set-out}
 use borrow.Author.Tests.{leb-true}
 use Rattle.state.specs.declared.Record.{Record}
-use Rattle.base.specs.Test.{pick, between}
+use Rattle.base.specs.Test.{between}
 use Rattle.state.specs.Parameter.{recipes, parameterCount}
-use Rattle.state.specs.Field.{changed, value, level, access, get, put, on}
+use Rattle.state.specs.Field.{changed, level, access, put, on}
 use Rattle.base.proofs.Tests.{between-high}
 use Rattle.state.proofs.Fields.{withLists, put-value, put-level}
 use Rattle.command.specs.declared.Request.{Request}

@@ -1,26 +1,25 @@
 -- One law for each return of the functions that decide a request. Assumes nothing.
-use Prim.Native.Nat.{ℕ, suc, _≤_, _<_}
-use mathlib.Core.Bool.{Bool, true, false, not, _&&_, _||_}
+use Prim.Native.Nat.{ℕ, _≤_, _<_}
+use mathlib.Core.Bool.{Bool, true, false, not}
 use mathlib.Core.Path.{_≡_, refl, sym, ap, _∙_}
 use mathlib.Core.List.{List, [], _∷_}
 use native.Mathlib.Omega.{arith}
-use lib.Dec.{eqb, leb, ltb}
-use lib.ListN.{length, getD}
-use borrow.Author.Tests.{eq-eqb, ne-eqb, le-leb, lt-leb, lt-ltb, le-ltb, not-true, not-false}
+use lib.ListN.{getD}
+use borrow.Author.Tests.{le-leb, lt-leb, lt-ltb, le-ltb, not-true, not-false}
 use Rattle.state.specs.declared.Record.{Record}
 use Rattle.state.specs.declared.Range.{Range}
 use Rattle.state.specs.declared.Place.{Place}
 use Rattle.state.specs.declared.Place.the-variants.{At, Nothing}
-use Rattle.base.specs.Test.{pick, between, member}
+use Rattle.base.specs.Test.{between, member}
 use Rattle.state.specs.Parameter.{recipes, parameterCount, placeOf, rangeAt}
-use Rattle.state.specs.Field.{Field, access, get, phaseNumber}
+use Rattle.state.specs.Field.{access, phaseNumber}
 use Rattle.state.specs.Valid.{within}
 use Rattle.state.proofs.Parameters.{code-has-place}
 use Rattle.command.specs.declared.Request.{Request}
 use Rattle.command.specs.declared.Request.the-variants.{Value, Level, SetValue, SetLevel, SelectRecipe, SetBatch}
 use Rattle.command.specs.Commands.{placeNumber}
 use Rattle.command.specs.Answer.{Verdict, NO, accepted}
-use Rattle.command.specs.Request.{refusedUnless, andThen, listed, placeFor, byItself, Guard, keypadGuard, levelGuard, phaseGuard, valueGuards, levelGuards, guards, guarded, verdictFor, valueVerdict, levelVerdict}
+use Rattle.command.specs.Request.{andThen, placeFor, byItself, Guard, keypadGuard, levelGuard, phaseGuard, valueGuards, levelGuards, guards, guarded, verdictFor, valueVerdict, levelVerdict}
 
 -- ---- the guards
 module _ (r : Record) where

@@ -1,27 +1,25 @@
 -- An accepted request's changes fit the record: each names one of its fields and a number within that field's range. Assumes nothing.
-use Prim.Native.Nat.{ℕ, zero, suc, _+_, _*_, _^_, _≤_, _<_}
+use Prim.Native.Nat.{ℕ, _^_, _≤_, _<_}
 use mathlib.Core.Bool.{Bool, true, false, _&&_}
-use mathlib.Core.Path.{_≡_, refl, sym, ap, _∙_}
+use mathlib.Core.Path.{_≡_, refl}
 use mathlib.Core.List.{List, [], _∷_}
 use native.Mathlib.Nat.{pow-le-pow-right}
 use native.Mathlib.Omega.{arith}
-use lib.Dec.{eqb, leb, ltb}
+use lib.Dec.{eqb, leb}
 use lib.ListN.{length, drop}
-use borrow.Author.Tests.{leb-true, ltb-true, ltb-false}
+use borrow.Author.Tests.{leb-true, ltb-true}
 use Rattle.state.specs.declared.Record.{Record}
 use Rattle.base.specs.Test.{pick, between}
 use Rattle.state.specs.Parameter.{recipes, parameterCount, rangeAt}
-use Rattle.state.specs.Field.{number, fieldRange}
 use Rattle.state.specs.Valid.{within, valid}
-use Rattle.state.specs.Event.{nextNumber}
 use Rattle.base.proofs.Tests.{and-left, and-right, between-yes, between-high}
 use Rattle.state.proofs.Kept.{next-in}
 use Rattle.command.specs.declared.Request.{Request}
 use Rattle.command.specs.declared.Request.the-variants.{Unknown, Malformed, NotServed, Status, Codes, Number, Recipe, Composition, Raw, Value, Level, SetValue, SetLevel, SelectRecipe, SetBatch, Start, Stop, End, ClearReset, ClearChanged}
 use Rattle.command.specs.Word.{space, valueOf, oneOf, allDigits}
 use Rattle.command.specs.Commands.{EQ, RS, TN, RR, RC, RT, PV, XV, PC, XC, NR, SB, SA, SP, ET, RE, codeIn, Form, words, nothing, parameter, parameterAnd, aNumber, formed, digitsBetween, behindSpace, word, BD, PC-word, R-word}
-use Rattle.command.specs.Answer.{Verdict, NO, accepted}
-use Rattle.command.specs.Request.{refusedUnless, andThen, listed, placeFor, guarded, guards, verdictFor, changes, whole, volumeOf, flagOf, requestFor, requestOf, parameterOf, lastOf}
+use Rattle.command.specs.Answer.{accepted}
+use Rattle.command.specs.Request.{refusedUnless, listed, placeFor, guarded, guards, verdictFor, changes, whole, volumeOf, flagOf, requestFor, requestOf, parameterOf, lastOf}
 use Rattle.command.proofs.Parsing.{value-below}
 use Rattle.command.proofs.Applying.{first-passed, second-passed, test-passed}
 use Rattle.command.proofs.Tables.{Fitting}

@@ -1,25 +1,24 @@
 -- What the two tables say of every request and record: a refusal goes out exactly by the first row that applies, and an accepted
 -- request changes exactly the fields of its row. Assumes nothing.
-use Prim.Native.Nat.{ℕ, zero, suc, _≤_, _<_}
-use mathlib.Core.Bool.{Bool, true, false, not, _||_, false≢true}
+use Prim.Native.Nat.{ℕ, zero, suc, _<_}
+use mathlib.Core.Bool.{Bool, true, false}
 use mathlib.Core.Path.{_≡_, refl, sym, ap, _∙_}
 use mathlib.Core.List.{List, [], _∷_}
 use native.Mathlib.Nat.{not-suc-le-zero, le-of-suc-le-suc}
 use native.Mathlib.Omega.{arith}
 use lib.Dec.{eqb}
 use lib.ListN.{length, getD}
-use borrow.Author.Tests.{eqb-true, eqb-false, eq-eqb}
+use borrow.Author.Tests.{eqb-true, eqb-false}
 use Rattle.state.specs.declared.Record.{Record}
 use Rattle.base.specs.Test.{pick}
-use Rattle.state.specs.Parameter.{parameterCount}
 use Rattle.state.specs.Field.{Field, get, put, position, fieldRange}
 use Rattle.state.specs.Valid.{within, valid}
-use Rattle.state.proofs.Fields.{Held, same-field, get-put-same, get-put-other, put-values-length, put-levels-length}
+use Rattle.state.proofs.Fields.{Held, same-field, get-put-same, get-put-other}
 use Rattle.state.proofs.Validity.{valid-tell}
 use Rattle.state.proofs.Kept.{put-kept}
 use Rattle.command.specs.Commands.{Change, applied}
 use Rattle.command.specs.Refusals.{Row, byText, applies, rowNumber}
-use Rattle.command.specs.Answer.{Verdict, NO, accepted, firstOf}
+use Rattle.command.specs.Answer.{NO, accepted, firstOf}
 
 -- ---- the first row that applies
 

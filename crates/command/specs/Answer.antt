@@ -1,12 +1,11 @@
 -- Document 01, "Commands": "A request that is not silent gets a reply."
 use Prim.Native.Nat.{ℕ}
-use mathlib.Core.Bool.{Bool, true, false}
 use mathlib.Core.List.{List, [], _∷_, _++_}
 use Rattle.state.specs.declared.Record.{Record}
 use Rattle.base.specs.Test.{pick}
 use Rattle.state.specs.Field.{address, get}
 use Rattle.command.specs.Word.{digits}
-use Rattle.command.specs.Commands.{Command, commands, codeIn, rowOf, applied, word}
+use Rattle.command.specs.Commands.{commands, codeIn, rowOf, applied, word}
 use Rattle.command.specs.Refusals.{Row, applies, rowNumber, refusals}
 
 -- NOnn, or accepted

@@ -1,10 +1,9 @@
 -- Document 01, "Worked on the bench record".
 use Prim.Native.Nat.{ℕ}
-use mathlib.Core.Bool.{true, false}
-use mathlib.Core.List.{List, [], _∷_, map}
+use mathlib.Core.Bool.{false}
+use mathlib.Core.List.{List, map}
 use lib.ListN.{replicate, set}
 use Rattle.state.specs.declared.Phase.the-variants.{Idle}
-use Rattle.state.specs.declared.Range.{Range}
 use Rattle.state.specs.declared.Record.{Record}
 use Rattle.state.specs.Parameter.{recipes, parameterCount, rangeOf, parametersFor, placeOf}
 use Rattle.command.specs.Commands.{placeNumber}

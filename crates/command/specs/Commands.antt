@@ -1,7 +1,7 @@
 -- Document 01, "Commands", first table: each request's code, the form of its arguments, its reply if accepted, and its effect.
 use Prim.Native.Nat.{ℕ, _+_, _-_, _*_}
 use mathlib.Core.Bool.{Bool, true, false, _&&_}
-use mathlib.Core.List.{List, [], _∷_, _++_, map}
+use mathlib.Core.List.{List, [], _∷_, _++_}
 use lib.Dec.{eqb}
 use lib.ListN.{length, getD, take, drop}
 use Rattle.state.specs.declared.Record.{Record}
@@ -9,7 +9,7 @@ use Rattle.state.specs.declared.Place.{Place}
 use Rattle.state.specs.declared.Place.the-variants.{At, Nothing}
 use Rattle.base.specs.Test.{pick, between}
 use Rattle.state.specs.Parameter.{parameterCount, placeOf}
-use Rattle.state.specs.Field.{Field, address, phase, changed, reset, recipe, preset, raw, number, value, level, get, put, on, off}
+use Rattle.state.specs.Field.{Field, phase, changed, reset, recipe, preset, raw, number, value, level, get, put, on, off}
 use Rattle.state.specs.Event.{idle, set, running, stopped, nextNumber}
 use Rattle.command.specs.Word.{space, digits, allDigits, valueOf, equal, oneOf}
 use Rattle.command.specs.Status.{statusCharacters, statusCodes, codesOn}

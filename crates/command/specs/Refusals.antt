@@ -2,18 +2,18 @@
 use Prim.Native.Nat.{ℕ}
 use mathlib.Core.Bool.{Bool, true, false, not, _&&_, _||_}
 use mathlib.Core.List.{List, [], _∷_, map}
-use lib.Dec.{eqb, leb, ltb}
+use lib.Dec.{eqb, ltb}
 use lib.ListN.{drop}
 use Rattle.state.specs.declared.Record.{Record}
 use Rattle.state.specs.declared.Place.{Place}
 use Rattle.state.specs.declared.Place.the-variants.{At, Nothing}
-use Rattle.base.specs.Test.{pick, between, member}
+use Rattle.base.specs.Test.{between, member}
 use Rattle.state.specs.Parameter.{recipes, placeOf, rangeAt}
 use Rattle.state.specs.Field.{Field, access, phase, keypad, level, get, on}
 use Rattle.state.specs.Valid.{within}
 use Rattle.state.specs.Event.{idle, set, running, stopped, done}
 use Rattle.command.specs.Word.{oneOf}
-use Rattle.command.specs.Commands.{EQ, RS, TN, RR, RC, RT, PV, XV, PC, XC, NR, SB, SA, SP, ET, RE, codeIn, Command, commands, rowOf, formed, word, argument, parameterIn, placeIn, numberIn, secondIn, behindSpace}
+use Rattle.command.specs.Commands.{RT, PV, XV, PC, XC, NR, SB, SA, SP, ET, RE, codeIn, Command, commands, rowOf, formed, word, parameterIn, placeIn, numberIn, secondIn, behindSpace}
 
 -- the text's code is one of these
 abbrev pub of : List ℕ → List ℕ → Bool

@@ -1,16 +1,14 @@
 -- The same by steps, as the code takes them: a text is read as a request whose arguments are numbers, and the request is decided.
 -- `proofs/Agree.antt` shows that these steps give what the tables say.
 use Prim.Native.Nat.{ℕ}
-use mathlib.Core.Bool.{Bool, true, false, not, _&&_, _||_}
+use mathlib.Core.Bool.{Bool, true, false, not, _||_}
 use mathlib.Core.List.{List, [], _∷_, _++_}
 use lib.Dec.{eqb, leb, ltb}
 use lib.ListN.{take, drop}
 use Rattle.state.specs.declared.Record.{Record}
-use Rattle.state.specs.declared.Place.{Place}
-use Rattle.state.specs.declared.Place.the-variants.{At, Nothing}
 use Rattle.base.specs.Test.{pick, between, member}
 use Rattle.state.specs.Parameter.{recipes, parameterCount, placeOf, rangeAt}
-use Rattle.state.specs.Field.{Field, access, phase, keypad, changed, reset, recipe, preset, raw, number, value, level, get, put, on, off}
+use Rattle.state.specs.Field.{Field, access, phase, keypad, changed, reset, recipe, preset, raw, number, value, level, get, on, off}
 use Rattle.state.specs.Valid.{within}
 use Rattle.state.specs.Event.{idle, set, running, stopped, done, nextNumber}
 use Rattle.command.specs.declared.Request.{Request}
@@ -21,7 +19,7 @@ use Rattle.command.specs.declared.Decision.{Decision}
 use Rattle.command.specs.declared.Decision.the-variants as decision
 use Rattle.command.specs.declared.Numbers.{Numbers}
 use Rattle.command.specs.declared.Numbers.the-variants as numbersRead
-use Rattle.command.specs.Word.{space, digits, valueOf, equal, oneOf}
+use Rattle.command.specs.Word.{space, digits, valueOf, oneOf}
 use Rattle.command.specs.Status.{statusCharacters, statusCodes, codesOn}
 use Rattle.command.specs.Commands.{EQ, RS, TN, RR, RC, RT, PV, XV, PC, XC, NR, SB, SA, SP, ET, RE, codeIn, Form, numbers, words, nothing, parameter, parameterAnd, aNumber, formed, behindSpace, placeNumber, word, spaced, BD, PC-word, R-word, OK, factorPlace, Change, _≔_, applied}
 use Rattle.command.specs.Answer.{Verdict, NO, accepted}

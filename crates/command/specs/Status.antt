@@ -1,12 +1,12 @@
 -- Document 01, "Commands": the six status characters of EQ and the status codes of RS.
 use Prim.Native.Nat.{ℕ, _+_, _*_}
-use mathlib.Core.Bool.{Bool, true, false, _||_}
-use mathlib.Core.List.{List, [], _∷_, _++_, map}
+use mathlib.Core.Bool.{Bool}
+use mathlib.Core.List.{List, [], _∷_, _++_}
 use lib.Dec.{eqb}
 use Rattle.state.specs.declared.Record.{Record}
 use Rattle.base.specs.Test.{pick, member}
 use Rattle.state.specs.Field.{Field, phase, keypad, flow, changed, reset, powerfail, get, on, flagNumber}
-use Rattle.state.specs.Event.{idle, set, running, stopped, done}
+use Rattle.state.specs.Event.{set, running, stopped, done}
 use Rattle.command.specs.Word.{space}
 
 -- the record's phase is one of these

@@ -1,15 +1,15 @@
 -- One law for each return of `call` and of what answers a text. Assumes nothing.
-use Prim.Native.Nat.{ℕ, suc, _+_, _-_, _≤_, _<_}
+use Prim.Native.Nat.{ℕ, _+_, _-_, _≤_, _<_}
 use mathlib.Core.Bool.{Bool, true, false, not}
 use mathlib.Core.Path.{_≡_, refl, sym, ap, _∙_}
-use mathlib.Core.List.{List, [], _∷_, _++_}
+use mathlib.Core.List.{List, _∷_, _++_}
 use native.Mathlib.Omega.{arith}
-use lib.Dec.{eqb, leb}
+use lib.Dec.{eqb}
 use lib.ListN.{length, take, drop, getD, length-take, length-drop}
 use borrow.Rule.Slice.PartMut.{putMid}
 use borrow.Author.Tests.{le-leb, lt-leb, eq-eqb, ne-eqb, not-true, not-false}
 use Rattle.state.specs.declared.Record.{Record}
-use Rattle.state.specs.Field.{address, get}
+use Rattle.state.specs.Field.{address}
 use Rattle.state.specs.Valid.{valid}
 use Rattle.frame.specs.declared.Kind.{Kind}
 use Rattle.frame.specs.declared.Silence.{Silence}
@@ -18,7 +18,7 @@ use Rattle.frame.specs.declared.Built.{Built}
 use Rattle.frame.specs.declared.Addressed.{Addressed}
 use Rattle.frame.specs.declared.Addressed.the-variants as addressee
 use Rattle.frame.specs.Frame.{allText, namesUnit, addressIn, frameOf, textIn, withinLimits, marksRight, checkRight}
-use Rattle.frame.specs.Numbers.{Answer, H, S, accepted, unit, silenceNumber, builtAs, addressedAs, lengthIn}
+use Rattle.frame.specs.Numbers.{Answer, H, S, accepted, unit, builtAs, addressedAs, lengthIn}
 use Rattle.frame.specs.Answer.{buildOf, locateOf, addressed, addressOf}
 use Rattle.base.specs.Test.{unless}
 use Rattle.base.specs.Lists.{over}

@@ -1,6 +1,5 @@
 -- Document 01, "Frames" and "Commands": one call of the controller.
 use Prim.Native.Nat.{ℕ}
-use mathlib.Core.Bool.{Bool, true, false}
 use mathlib.Core.List.{List}
 use lib.Dec.{eqb, leb}
 use lib.ListN.{length}

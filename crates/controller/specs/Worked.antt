@@ -13,9 +13,9 @@ use Rattle.state.specs.Parameter.{placeIn, placeOf, rangeAt}
 use Rattle.state.specs.Field.{phaseOf, put}
 use Rattle.state.specs.Valid.{allIn, valid}
 use Rattle.frame.specs.declared.Kind.the-variants.{Minicomputer}
-use Rattle.frame.specs.Frame.{allText, namesUnit, addressIn, xorFrom, frameOf, textIn, withinLimits, marksRight, checkRight}
+use Rattle.frame.specs.Frame.{namesUnit, addressIn, xorFrom, frameOf, textIn, withinLimits, marksRight, checkRight}
 use Rattle.base.specs.Lists.{over}
-use Rattle.command.specs.Word.{digits, allDigits, valueFrom, equal}
+use Rattle.command.specs.Word.{digits, valueFrom, equal}
 use Rattle.command.specs.Status.{statusCharacters, codesOn}
 use Rattle.command.specs.Commands as commands
 use Rattle.command.specs.Commands.{codeIn, digitsBetween, formed, parameterIn, numberIn, secondIn, applied, rowOf}

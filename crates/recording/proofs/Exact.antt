@@ -1,8 +1,8 @@
 -- A judge that keeps exactly the states that may be current gives the right answer, whatever the states, the exchanges and the form of
 -- its knowledge. Assumes nothing.
-use Prim.Native.Nat.{ℕ, zero, suc, _+_, _-_, _≤_, _<_}
+use Prim.Native.Nat.{ℕ, suc, _+_, _-_, _≤_, _<_}
 use mathlib.Core.Bool.{Bool, true, false}
-use mathlib.Core.Path.{_≡_, refl, sym, subst, ap, _∙_}
+use mathlib.Core.Path.{_≡_, refl, sym, subst}
 use mathlib.Core.List.{List, [], _∷_}
 use native.Mathlib.Omega.{arith}
 use native.Mathlib.Numerals.{add-one}
@@ -11,7 +11,7 @@ use lib.ListN.{length, take}
 use lib.Seq.{take-length}
 use borrow.Author.Tests.{ltb-true, ltb-false}
 use Rattle.base.specs.Test.{pick}
-use Rattle.recording.specs.Replay.{Answer, fits, refuted, AllAgree, SomeAgrees, Right}
+use Rattle.recording.specs.Replay.{Answer, fits, refuted, AllAgree, Right}
 
 -- how many exchanges pass, and the answer that follows
 module _ {K E : Type 0} (learn : K → E → K) (alive : K → Bool) where

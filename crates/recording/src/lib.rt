@@ -3,7 +3,7 @@ use base::wide;
 ghost use mathlib.Core.Path.{_≡_};
 ghost use Prim.Native.Nat.{_≤_};
 ghost use lib.ListN.{length, drop};
-ghost use Rattle.recording.specs.Form.{Exchanges, exchangesIn, exchangeAt, recordingOf, summary, readAs, countOf};
+ghost use Rattle.recording.specs.Form.{exchangesIn, exchangeAt, recordingOf, summary, readAs, countOf};
 
 // Why a recording is refused.
 pub enum Refusal {

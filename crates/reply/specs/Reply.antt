@@ -1,11 +1,10 @@
 -- A reply's text in the lent part of the reply buffer.
 use Prim.Native.Nat.{ℕ, _+_}
-use mathlib.Core.Bool.{Bool, true, false}
-use mathlib.Core.List.{List, [], _∷_, _++_}
+use mathlib.Core.List.{List, _∷_, _++_}
 use lib.Dec.{leb}
 use lib.ListN.{length, take, drop}
 use Rattle.state.specs.declared.Record.{Record}
-use Rattle.base.specs.Test.{pick, unless}
+use Rattle.base.specs.Test.{unless}
 use Rattle.state.specs.Field.{address, get}
 use Rattle.base.specs.Lists.{over}
 use Rattle.command.specs.declared.Request.{Request}

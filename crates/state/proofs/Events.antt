@@ -1,19 +1,17 @@
 -- What the code's returns give is what the definitions of the panel's events say; and a valid record stays valid. Assumes nothing.
-use Prim.Native.Nat.{ℕ, zero, suc, _+_, _-_, _*_, _/_, _%_, _≤_, _<_}
-use mathlib.Core.Bool.{Bool, true, false, not, _&&_, _||_, false≢true}
-use mathlib.Core.Path.{_≡_, refl, sym, ap, _∙_}
-use native.Mathlib.Omega.{arith}
-use lib.Dec.{eqb, leb, ltb}
-use borrow.Author.Tests.{eq-eqb, ne-eqb, le-leb, lt-leb, not-true, not-false, lt-ltb, le-ltb}
+use Prim.Native.Nat.{ℕ, _+_, _-_, _%_, _≤_, _<_}
+use mathlib.Core.Bool.{Bool, true, false, not, _||_}
+use mathlib.Core.Path.{_≡_, sym, ap, _∙_}
+use lib.Dec.{eqb}
+use borrow.Author.Tests.{eq-eqb, ne-eqb, le-leb, lt-leb, not-true, not-false}
 use Rattle.state.specs.declared.Phase.{Phase}
-use Rattle.state.specs.declared.Phase.the-variants.{Idle, Set, Running, Stopped, Done}
+use Rattle.state.specs.declared.Phase.the-variants.{Idle, Running}
 use Rattle.state.specs.declared.Event.{Event}
-use Rattle.state.specs.declared.Event.the-variants.{Pulses, Still, KeypadOn, KeypadOff, PowerBack}
+use Rattle.state.specs.declared.Event.the-variants.{Pulses, KeypadOn, PowerBack}
 use Rattle.state.specs.declared.Record.{Record}
-use Rattle.base.specs.Test.{pick, between}
-use Rattle.state.specs.Field.{Field, phase, keypad, flow, reset, powerfail, preset, raw, number, get, put, phaseNumber, on, off}
+use Rattle.state.specs.Field.{phase, keypad, flow, reset, powerfail, preset, raw, number, put, phaseNumber, on, off}
 use Rattle.state.specs.Valid.{valid}
-use Rattle.state.specs.Event.{idle, set, running, stopped, done, inPhase, pulses, powerBack, keypadOn, happened, after, nextNumber, batchSet}
+use Rattle.state.specs.Event.{idle, set, running, stopped, done, pulses, powerBack, keypadOn, happened, after, nextNumber, batchSet}
 use Rattle.state.proofs.Validity.{valid-tell}
 
 module _ (r : Record) (b : Bool) (v : b ≡ valid r) where

@@ -1,9 +1,8 @@
 -- Reading a field after writing one. Assumes nothing.
 use Prim.Native.Nat.{ℕ, zero, suc, _+_, _-_, _*_, _/_, _%_, _≤_, _<_}
-use mathlib.Core.Bool.{Bool, true, false, not, _&&_, false≢true}
+use mathlib.Core.Bool.{Bool, true, false, _&&_}
 use mathlib.Core.Path.{_≡_, refl, sym, ap, _∙_}
-use mathlib.Core.List.{List, [], _∷_, _++_}
-use mathlib.Core.Logic.{_⊎_, inl, inr, ⊎-elim}
+use mathlib.Core.List.{List}
 use native.Mathlib.Omega.{arith}
 use lib.Dec.{eqb, leb, ltb}
 use lib.ListN.{length, getD, set, length-set}
@@ -12,9 +11,9 @@ use borrow.Author.Tests.{eq-eqb, ne-eqb, eqb-true, le-leb, leb-true, le-ltb}
 use Rattle.state.specs.declared.Phase.{Phase}
 use Rattle.state.specs.declared.Phase.the-variants.{Idle, Set, Running, Stopped, Done}
 use Rattle.state.specs.declared.Record.{Record}
-use Rattle.base.specs.Test.{pick, between}
-use Rattle.state.specs.Parameter.{recipes, range, parameterCount}
-use Rattle.state.specs.Field.{Field, address, access, phase, keypad, flow, changed, reset, powerfail, recipe, preset, raw, number, value, level, get, put, putAt, is, position, fieldRange, fieldsFor, phaseNumber, phaseOf, flagNumber, flagOf, off, on}
+use Rattle.base.specs.Test.{pick}
+use Rattle.state.specs.Parameter.{parameterCount}
+use Rattle.state.specs.Field.{Field, address, access, phase, keypad, flow, changed, reset, powerfail, recipe, preset, raw, number, value, level, get, put, putAt, position, fieldRange, fieldsFor, phaseNumber, phaseOf, flagNumber, flagOf}
 use Rattle.state.specs.Valid.{within}
 use Rattle.base.proofs.Tests.{and-no, and-left, and-right, between-high, holds-below}
 

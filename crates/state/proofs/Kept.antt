@@ -1,9 +1,8 @@
 -- A record is valid exactly if each field lies in its own range; so a write within a field's range, a panel event and a phase change
 -- keep it valid. Assumes nothing.
-use Prim.Native.Nat.{ℕ, zero, suc, _+_, _*_, _%_, _≤_, _<_}
+use Prim.Native.Nat.{ℕ, zero, suc, _+_, _%_, _≤_, _<_}
 use mathlib.Core.Bool.{Bool, true, false, _&&_, _||_}
 use mathlib.Core.Path.{_≡_, refl, sym, ap, _∙_}
-use mathlib.Core.List.{List, [], _∷_, _++_}
 use native.Mathlib.Omega.{arith}
 use native.Mathlib.Numerals.{add-one}
 use lib.Dec.{eqb, leb, ltb}
@@ -12,12 +11,12 @@ use borrow.Author.Tests.{eqb-true, eqb-false, eq-eqb, ltb-true}
 use Rattle.state.specs.declared.Event.{Event}
 use Rattle.state.specs.declared.Event.the-variants.{Pulses, Still, KeypadOn, KeypadOff, PowerBack}
 use Rattle.state.specs.declared.Record.{Record}
-use Rattle.base.specs.Test.{pick, between}
+use Rattle.base.specs.Test.{pick}
 use Rattle.state.specs.Parameter.{parameterCount}
 use Rattle.state.specs.Field.{Field, address, access, phase, keypad, flow, changed, reset, powerfail, recipe, preset, raw, number, value, level, get, put, position, fieldRange, fieldsFor, parameterFields, on, off}
 use Rattle.state.specs.Valid.{within, allIn, fullLength, valid}
 use Rattle.state.specs.Event.{set, running, stopped, done, idle, inPhase, pulses, finished, powerBack, keypadOn, happened, after, nextNumber, batchSet, started, halted, ended}
-use Rattle.base.proofs.Tests.{and-yes, and-left, and-right, between-yes, between-low, between-high}
+use Rattle.base.proofs.Tests.{and-yes, and-left, and-right, between-yes}
 use Rattle.state.proofs.Fields.{Held, same-field, get-put-same, get-put-other, put-values-length, put-levels-length}
 use Rattle.state.proofs.Validity.{all-at, pairIn, pairs-more, fields-split, valid-tell}
 

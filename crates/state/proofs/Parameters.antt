@@ -2,13 +2,13 @@
 use Prim.Native.Nat.{ℕ, zero, suc, _+_, _-_, _*_, _/_, _%_, _≤_, _<_}
 use mathlib.Core.Bool.{Bool, true, false}
 use mathlib.Core.Path.{_≡_, refl, sym, ap, _∙_}
-use mathlib.Core.List.{List, [], _∷_, _++_, map}
-use mathlib.Core.Logic.{_⊎_, inl, inr, ⊎-elim}
+use mathlib.Core.List.{List, [], _∷_, map}
+use mathlib.Core.Logic.{_⊎_, ⊎-elim}
 use native.Mathlib.Nat.{not-suc-le-zero, le-of-suc-le-suc}
 use native.Mathlib.Omega.{arith}
 use native.Mathlib.Numerals.{add-one}
-use lib.Dec.{eqb, ltb}
-use lib.ListN.{length, getD, length-append, List·getD-append, List·getD-eq-default, List·getD-map, length-map}
+use lib.Dec.{eqb}
+use lib.ListN.{length, getD, length-append, List·getD-append, List·getD-eq-default, List·getD-map}
 use lib.Seq.{getD-append-add}
 use borrow.Author.Tests.{eq-eqb, ne-eqb, eqb-true}
 use Rattle.state.specs.declared.Range.{Range}
@@ -16,7 +16,7 @@ use Rattle.state.specs.declared.Place.{Place}
 use Rattle.state.specs.declared.Place.the-variants.{At, Nothing}
 use Rattle.base.specs.Test.{pick}
 use Rattle.state.specs.Parameter.{Parameter, share, factor, lowFlow, copies, recipes, codeOf, rangeOf, range, recipeParameters, systemParameters, parametersFor, parameterCount, codeAt, rangeAt, later, placeIn, placeOf}
-use Rattle.base.proofs.Tests.{below-or-not, allBelow, holds-below}
+use Rattle.base.proofs.Tests.{below-or-not, holds-below}
 
 -- ---- an element of a mapped list, whatever stands for a missing one
 getD-map-below : {A B : Type 0} (f : A → B) (l : List A) (i : ℕ) (d : A) (e : B) → i < length l → getD (map f l) i e ≡ f (getD l i d)

@@ -13,11 +13,11 @@ use borrow.Author.Tests.{eq-eqb, eqb-true, not-true, not-false}
 use Rattle.state.specs.declared.Phase.{Phase}
 use Rattle.state.specs.declared.Phase.the-variants.{Idle, Set, Running, Stopped, Done}
 use Rattle.state.specs.declared.Record.{Record}
-use Rattle.base.specs.Test.{pick, between}
-use Rattle.state.specs.Parameter.{recipes, range, parameterCount}
+use Rattle.base.specs.Test.{between}
+use Rattle.state.specs.Parameter.{recipes, parameterCount}
 use Rattle.state.specs.Field.{Field, address, value, level, get, fieldRange, fieldsFor, parameterFields, phaseNumber, flagNumber, off, on}
 use Rattle.state.specs.Valid.{within, allIn, fullLength, valid}
-use Rattle.base.proofs.Tests.{and-yes, and-no, and-left, and-right, between-yes, between-no, between-low, between-high}
+use Rattle.base.proofs.Tests.{and-yes, and-left, and-right, between-yes, between-low, between-high}
 
 pub flag-in : (b : Bool) → between off on (flagNumber b) ≡ true
 flag-in true = refl

@@ -1,6 +1,6 @@
 -- Document 01, "What the panel does", and the phase changes of SB, SA, SP and ET.
 use Prim.Native.Nat.{ℕ, _+_, _%_}
-use mathlib.Core.Bool.{Bool, true, false, _&&_, _||_}
+use mathlib.Core.Bool.{Bool, _&&_, _||_}
 use lib.Dec.{eqb, leb, ltb}
 use Rattle.state.specs.declared.Phase.the-variants.{Idle, Set, Running, Stopped, Done}
 use Rattle.state.specs.declared.Event.{Event}

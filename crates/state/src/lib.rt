@@ -2,7 +2,6 @@
 ghost use mathlib.Core.Path.{_≡_};
 ghost use mathlib.Core.Bool.{_&&_};
 ghost use Prim.Native.Nat.{_%_};
-ghost use Rattle.base.specs.Test.{between, member};
 ghost use Rattle.state.specs.Parameter.{codeAt, rangeAt, placeOf};
 ghost use Rattle.state.specs.Field.{Field, put, phaseNumber, fieldRange, fieldsFor};
 ghost use Rattle.state.specs.Valid.{within, allIn, valid};

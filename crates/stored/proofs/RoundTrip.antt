@@ -12,7 +12,7 @@ use lib.Seq.{drop-cons, drop-drop, ext-getD, take-at, drop-at, length-take-le}
 use borrow.Author.Tests.{eq-eqb, eqb-true, le-leb, leb-true}
 use Rattle.state.specs.declared.Record.{Record}
 use Rattle.state.specs.Parameter.{parameterCount, rangeAt}
-use Rattle.state.specs.Field.{Field, address, access, phase, keypad, flow, changed, reset, powerfail, recipe, preset, raw, number, value, level, get, fieldRange, phaseNumber, phaseOf, flagNumber, flagOf}
+use Rattle.state.specs.Field.{Field, address, access, phase, keypad, flow, changed, reset, powerfail, recipe, preset, raw, number, value, level, get, fieldRange, flagNumber, flagOf}
 use Rattle.state.specs.Valid.{within, valid}
 use Rattle.base.proofs.Tests.{below-or-not, holds-below, and-yes, between-yes, between-high}
 use Rattle.state.proofs.Validity.{flag-in, phase-in, valid-tell}

@@ -4,7 +4,6 @@ use native.Mathlib.Omega.{arith}
 use lib.ListN.{take, drop}
 use borrow.Author.Needs.{needs}
 use Rattle.base.specs.Test.{allBetween}
-use Rattle.frame.specs.Frame.{allText}
 use Rattle.command.specs.Status.{statusCodes}
 use Rattle.reply.proofs.Laws.{joined, laid-same, codes-append, text-codes}
 use Rattle.reply.proofs.put_codes.Statement.{statement}
