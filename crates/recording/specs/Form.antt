@@ -5,6 +5,8 @@ use mathlib.Core.List.{List, [], _∷_}
 use lib.Dec.{eqb, leb, ltb}
 use lib.ListN.{length, getD, take, drop}
 use Rattle.base.specs.Test.{between, unless}
+use Rattle.state.specs.Field.{address, access, fieldRange}
+use Rattle.state.specs.Valid.{within}
 use Rattle.recording.specs.declared.Next.{Next}
 use Rattle.recording.specs.declared.Next.the-variants as next
 use Rattle.recording.specs.declared.Refusal.{Refusal}
@@ -57,7 +59,7 @@ recordingOf bs =
     unless (between 5 65535 (length bs)) (J 1)
     (unless (eqb (getD bs 0 0) 1) (J 2)
     (unless (eqb (getD bs 1 0 * 256 + getD bs 2 0) (length bs)) (J 3)
-    (unless (between 1 99 (getD bs 3 0) && between 0 3 (getD bs 4 0)) (J 4)
+    (unless (within (fieldRange address) (getD bs 3 0) && within (fieldRange access) (getD bs 4 0)) (J 4)
     (withHeader (getD bs 3 0) (getD bs 4 0) (exchangesIn (length bs) (drop headerWidth bs))))))
 
 -- ---- the same by places in the bytes, as the code goes through them

@@ -22,9 +22,6 @@ use Rattle.state.proofs.Validity.{all-at, pairIn, pairs-more, fields-sp
 
 -- ---- valid exactly if each field is in its range
 module _ (r : Record) where
-  InRange : Field → Type 0
-  InRange f = within (fieldRange f) (get f r) ≡ true
-
   pub field-in : valid r ≡ true → (f : Field) → Held f → within (fieldRange f) (get f r) ≡ true
   unfolding valid
   field-in v f l = go f l
