@@ -4,105 +4,40 @@ use mathlib.Core.Bool.{Bool, true, false, not}
 use mathlib.Core.Path.{_≡_, refl, sym, ap, _∙_}
 use mathlib.Core.List.{List, [], _∷_}
 use native.Mathlib.Omega.{arith}
-use lib.ListN.{getD}
-use borrow.Author.Tests.{le-leb, lt-leb, lt-ltb, le-ltb, not-true, not-false}
+use lib.Dec.{eqb}
+use lib.ListN.{length, getD, List·getD-eq-default}
+use borrow.Author.Tests.{lt-ltb, le-ltb}
 use Rattle.state.specs.declared.Record.{Record}
 use Rattle.state.specs.declared.Range.{Range}
 use Rattle.state.specs.declared.Place.{Place}
 use Rattle.state.specs.declared.Place.the-variants.{At, Nothing}
-use Rattle.base.specs.Test.{between, member}
-use Rattle.state.specs.Parameter.{recipes, parameterCount, placeOf, rangeAt}
-use Rattle.state.specs.Field.{access, phaseNumber}
+use Rattle.base.specs.Test.{pick, between, member}
+use Rattle.state.specs.Parameter.{parameterCount, placeOf, rangeAt}
+use Rattle.state.specs.Field.{phaseNumber, flagNumber, get, on}
 use Rattle.state.specs.Valid.{within}
 use Rattle.state.proofs.Parameters.{code-has-place}
 use Rattle.command.specs.declared.Request.{Request}
-use Rattle.command.specs.declared.Request.the-variants.{Value, Level, SetValue, SetLevel, SelectRecipe, SetBatch}
+use Rattle.command.specs.declared.Refusal.{Refusal}
+use Rattle.command.specs.declared.Decision.{Decision}
+use Rattle.command.specs.declared.Decision.the-variants.{Refused}
 use Rattle.command.specs.Commands.{placeNumber}
 use Rattle.command.specs.Answer.{Verdict, NO, accepted}
-use Rattle.command.specs.Request.{andThen, placeFor, byItself, Guard, keypadGuard, levelGuard, phaseGuard, valueGuards, levelGuards, guards, guarded, verdictFor, valueVerdict, levelVerdict}
+use Rattle.command.specs.Request.{refusalNumber, decisionAs, refusedUnless, listed, andThen, placeFor, valueByItself, levelByItself, byItself, Guard, keypadGuard, levelGuard, phaseGuard, valueGuards, levelGuards, guards, guarded, verdictFor, valueVerdict}
 
--- ---- the guards
-module _ (r : Record) where
-  pub phase-refused : (ps : List ℕ) (n : ℕ) (b : Bool) → n ≡ phaseNumber (r .phase) → b ≡ member n ps → not b ≡ true → NO 5 ≡ guarded (phaseGuard ps ∷ []) r
-  unfolding guarded
-  phase-refused ps n b e m h = simp (ap (λ (k : ℕ). member k ps) (sym e) ∙ (sym m ∙ not-true b h))
+-- ---- a test, and one decision behind another
+module _ (b : Bool) (n : ℕ) where
+  pub test-fails : b ≡ false → NO n ≡ refusedUnless b n
+  test-fails e = simp e
 
-  pub phase-passed : (ps : List ℕ) (n : ℕ) (b : Bool) → n ≡ phaseNumber (r .phase) → b ≡ member n ps → not b ≡ false → accepted ≡ guarded (phaseGuard ps ∷ []) r
-  unfolding guarded
-  phase-passed ps n b e m h = simp (ap (λ (k : ℕ). member k ps) (sym e) ∙ (sym m ∙ not-false b h))
+  pub test-same : (t : Bool) (v : Verdict) → b ≡ t → v ≡ refusedUnless b n → v ≡ refusedUnless t n
+  test-same t v e w = w ∙ ap (λ (x : Bool). refusedUnless x n) e
 
-  module _ (gs : List Guard) where
-    pub keypad-refused : r .keypad ≡ true → NO 2 ≡ guarded (keypadGuard ∷ gs) r
-    unfolding guarded
-    keypad-refused h = simp h
+module _ (a b : Decision) where
+  pub first-refused : (k : Refusal) → a ≡ Refused k → NO (refusalNumber k) ≡ andThen (decisionAs a) (decisionAs b)
+  first-refused k e = simp e
 
-    pub keypad-passed : (v : Verdict) → r .keypad ≡ false → v ≡ guarded gs r → v ≡ guarded (keypadGuard ∷ gs) r
-    unfolding guarded
-    keypad-passed v h e = e ∙ simp h
-
-    module _ (a i : ℕ) (above : Bool) where
-      pub level-refused : a < getD (r .levels) i 0 → NO 7 ≡ guarded (levelGuard a above i ∷ gs) r
-      unfolding guarded
-      level-refused h = simp (lt-ltb a (getD (r .levels) i 0) h)
-
-      pub level-above : getD (r .levels) i 0 ≤ a → above ≡ true → NO 7 ≡ guarded (levelGuard a above i ∷ gs) r
-      unfolding guarded
-      level-above h e = simp (le-ltb a (getD (r .levels) i 0) h, e)
-
-      pub level-passed : (v : Verdict) → getD (r .levels) i 0 ≤ a → above ≡ false → v ≡ guarded gs r → v ≡ guarded (levelGuard a above i ∷ gs) r
-      unfolding guarded
-      level-passed v h e q = q ∙ simp (le-ltb a (getD (r .levels) i 0) h, e)
-
-  -- nothing refuses
-  pub all-passed : accepted ≡ guarded [] r
-  unfolding guarded
-  all-passed = refl
-
--- ---- PC and XC by place
-module _ (i : ℕ) (r : Record) where
-  pub value-unlisted : (n : ℕ) → parameterCount ≤ i → NO 4 ≡ valueVerdict i n r
-  unfolding valueVerdict
-  value-unlisted n h = simp (le-ltb i parameterCount h)
-
-  pub level-unlisted : (l : ℕ) → parameterCount ≤ i → NO 4 ≡ levelVerdict i l r
-  unfolding levelVerdict
-  level-unlisted l h = simp (le-ltb i parameterCount h)
-
-  module _ (h : i < parameterCount) where
-    pub value-outside : (n : ℕ) (g : Range) (b : Bool) → g ≡ rangeAt i → b ≡ between (g .low) (g .high) n → not b ≡ true → NO 6 ≡ valueVerdict i n r
-    unfolding valueVerdict
-    value-outside n g b e t q = simp (lt-ltb i parameterCount h, ap (λ (x : Range). within x n) (sym e) ∙ (sym t ∙ not-true b q))
-
-    pub value-inside : (n : ℕ) (g : Range) (b : Bool) (v : Verdict) → g ≡ rangeAt i → b ≡ between (g .low) (g .high) n → not b ≡ false
-        → v ≡ guarded (valueGuards (r .access) i) r → v ≡ valueVerdict i n r
-    unfolding valueVerdict
-    value-inside n g b v e t q w = w ∙ simp (lt-ltb i parameterCount h, ap (λ (x : Range). within x n) (sym e) ∙ (sym t ∙ not-false b q))
-
-    pub level-outside : (l : ℕ) → 3 < l → NO 6 ≡ levelVerdict i l r
-    unfolding levelVerdict
-    level-outside l q = simp (lt-ltb i parameterCount h, lt-leb l 3 q)
-
-    pub level-inside : (l : ℕ) (v : Verdict) → l ≤ 3 → v ≡ guarded (levelGuards (r .access) i l) r → v ≡ levelVerdict i l r
-    unfolding levelVerdict
-    level-inside l v q w = w ∙ simp (lt-ltb i parameterCount h, le-leb l 3 q)
-
--- ---- NR and SB
-module _ (r : Record) (n : ℕ) where
-  pub recipe-unknown : (b : Bool) → b ≡ between 1 recipes n → not b ≡ true → NO 30 ≡ verdictFor (SelectRecipe n) r
-  unfolding verdictFor
-  recipe-unknown b e q = simp (sym e ∙ not-true b q)
-
-  pub recipe-known : (b : Bool) (v : Verdict) → b ≡ between 1 recipes n → not b ≡ false → v ≡ guarded (guards (r .access) (SelectRecipe n)) r → v ≡ verdictFor (SelectRecipe n) r
-  unfolding verdictFor
-  recipe-known b v e q w = w ∙ simp (sym e ∙ not-false b q)
-
-  pub batch-of-none : n ≡ 0 → NO 6 ≡ verdictFor (SetBatch n) r
-  unfolding verdictFor
-  batch-of-none e = simp (lt-leb 1 n (omega arith))
-
-  pub batch-of-some : (v : Verdict) → (n ≡ 0 → ⊥) → v ≡ guarded (guards (r .access) (SetBatch n)) r → v ≡ verdictFor (SetBatch n) r
-  unfolding verdictFor
-  batch-of-some v h w = w ∙ simp (le-leb 1 n (omega arith))
+  pub both-decided : (v x y : Verdict) → v ≡ andThen (decisionAs a) (decisionAs b) → decisionAs a ≡ x → decisionAs b ≡ y → v ≡ andThen x y
+  both-decided v x y e p q = e ∙ ap (λ (w : Verdict). andThen w (decisionAs b)) p ∙ ap (andThen x) q
 
 -- ---- the place of a code
 pub place-found : (p i : ℕ) (q : Place) → q ≡ placeOf p → q ≡ At i → i ≡ placeFor p
@@ -114,64 +49,119 @@ place-missing p q e h = ap placeNumber (sym h ∙ e)
 pub place-below : (p i : ℕ) → placeOf p ≡ At i → i < parameterCount
 place-below p i e = code-has-place p i e .0
 
-pub read-listed : (p i : ℕ) (q : Place) → q ≡ placeOf p → q ≡ At i → accepted ≡ byItself (Value p)
-read-listed p i q e h = simp (sym e ∙ h, lt-ltb i parameterCount (place-below p i (sym e ∙ h)))
+-- ---- whatever the record
+pub range-tested : (i n : ℕ) (g : Range) (b : Bool) (v : Verdict) → g ≡ rangeAt i → b ≡ between (g .low) (g .high) n → v ≡ refusedUnless b 6
+    → v ≡ refusedUnless (within (rangeAt i) n) 6
+range-tested i n g b v e t w = test-same b 6 (within (rangeAt i) n) v (t ∙ ap (λ (x : Range). within x n) e) w
 
-pub read-unlisted : (p : ℕ) (q : Place) → q ≡ placeOf p → q ≡ Nothing → NO 4 ≡ byItself (Value p)
-read-unlisted p q e h = simp (sym e ∙ h)
+pub itself-as : (q k : Request) (v : Verdict) → q ≡ k → v ≡ byItself k → v ≡ byItself q
+itself-as q k v e w = w ∙ ap byItself (sym e)
 
--- ---- a request by its cases
-pub decided-as : (q k : Request) (v : Verdict) (r : Record) → q ≡ k → v ≡ verdictFor k r → v ≡ verdictFor q r
-decided-as q k v r e w = w ∙ ap (λ (x : Request). verdictFor x r) (sym e)
+module _ (p i : ℕ) (v : Verdict) (e : i ≡ placeFor p) where
+  pub place-itself : v ≡ refusedUnless (listed i) 4 → v ≡ refusedUnless (listed (placeFor p)) 4
+  place-itself w = w ∙ ap (λ (k : ℕ). refusedUnless (listed k) 4) e
 
-then-accepted : (v : Verdict) → v ≡ andThen v accepted
-then-accepted (NO n) = refl
-then-accepted accepted = refl
+  pub value-itself : (n : ℕ) → v ≡ valueByItself i n → v ≡ valueByItself (placeFor p) n
+  value-itself n w = w ∙ ap (λ (k : ℕ). valueByItself k n) e
 
-pub value-read : (p : ℕ) (v : Verdict) (r : Record) → v ≡ byItself (Value p) → v ≡ verdictFor (Value p) r
-unfolding verdictFor guarded
-value-read p v r e = e ∙ then-accepted (byItself (Value p))
+  pub level-itself : (l : ℕ) → v ≡ levelByItself i l → v ≡ levelByItself (placeFor p) l
+  level-itself l w = w ∙ ap (λ (k : ℕ). levelByItself k l) e
 
-pub level-read : (p : ℕ) (v : Verdict) (r : Record) → v ≡ byItself (Value p) → v ≡ verdictFor (Level p) r
-unfolding verdictFor guarded
-level-read p v r e = e ∙ then-accepted (byItself (Value p))
+-- ---- by the record
 
-pub value-set : (p i n : ℕ) (v : Verdict) (r : Record) → i ≡ placeFor p → v ≡ valueVerdict i n r → v ≡ verdictFor (SetValue p n) r
-unfolding verdictFor valueVerdict
-value-set p i n v r e w = w ∙ ap (λ (k : ℕ). valueVerdict k n r) e
+-- a guard refuses where its test does not pass
+refused-where : (b : Bool) (n : ℕ) → refusedUnless (not b) n ≡ pick b (NO n) accepted
+refused-where true n = refl
+refused-where false n = refl
 
-pub level-set : (p i l : ℕ) (v : Verdict) (r : Record) → i ≡ placeFor p → v ≡ levelVerdict i l r → v ≡ verdictFor (SetLevel p l) r
-unfolding verdictFor levelVerdict
-level-set p i l v r e w = w ∙ ap (λ (k : ℕ). levelVerdict k l r) e
+passed-where : (b : Bool) (n : ℕ) → refusedUnless b n ≡ pick (not b) (NO n) accepted
+passed-where true n = refl
+passed-where false n = refl
+
+refused-then : (b : Bool) (n : ℕ) (v : Verdict) → andThen (pick b (NO n) accepted) v ≡ pick b (NO n) v
+refused-then true n v = refl
+refused-then false n v = refl
+
+flag-on : (b : Bool) → b ≡ eqb (flagNumber b) on
+flag-on true = refl
+flag-on false = refl
+
+pub beyond-last : (ls : List ℕ) (i : ℕ) → length ls ≡ parameterCount → parameterCount ≤ i → 0 ≡ getD ls i 0
+beyond-last ls i l h = let k : length ls ≤ i = omega arith in sym (List·getD-eq-default ls 0 k)
+
+module _ (r : Record) where
+  pub all-passed : accepted ≡ guarded [] r
+  unfolding guarded
+  all-passed = refl
+
+  -- the first guard, and then the others
+  pub guards-then : (g : Guard) (gs : List Guard) (a b : Decision) (v : Verdict) → v ≡ andThen (decisionAs a) (decisionAs b)
+      → decisionAs a ≡ guarded (g ∷ []) r → decisionAs b ≡ guarded gs r → v ≡ guarded (g ∷ gs) r
+  unfolding guarded
+  guards-then g gs a b v e p q = both-decided a b v _ _ e p q ∙ refused-then (g .refuses (get (g .field) r)) (g .refusal) (guarded gs r)
+
+  pub keypad-tested : (v : Verdict) → v ≡ refusedUnless (not (r .keypad)) 2 → v ≡ guarded (keypadGuard ∷ []) r
+  unfolding guarded
+  keypad-tested v e = e ∙ refused-where (r .keypad) 2 ∙ ap (λ (b : Bool). pick b (NO 2) accepted) (flag-on (r .keypad))
+
+  pub phase-tested : (ps : List ℕ) (n : ℕ) (b : Bool) (v : Verdict) → n ≡ phaseNumber (r .phase) → b ≡ member n ps → v ≡ refusedUnless b 5
+      → v ≡ guarded (phaseGuard ps ∷ []) r
+  unfolding guarded
+  phase-tested ps n b v e m w = test-same b 5 (member (phaseNumber (r .phase)) ps) v (m ∙ ap (λ (k : ℕ). member k ps) e) w ∙ passed-where (member (phaseNumber (r .phase)) ps) 5
+
+  module _ (a i n : ℕ) (above : Bool) (e : n ≡ getD (r .levels) i 0) where
+    pub level-refused : a < n → NO 7 ≡ guarded (levelGuard a above i ∷ []) r
+    unfolding guarded
+    level-refused h = let k : a < getD (r .levels) i 0 = omega arith in simp (lt-ltb a (getD (r .levels) i 0) k)
+
+    pub level-tested : (v : Verdict) → n ≤ a → v ≡ refusedUnless (not above) 7 → v ≡ guarded (levelGuard a above i ∷ []) r
+    unfolding guarded
+    level-tested v h w =
+        let k : getD (r .levels) i 0 ≤ a = omega arith in
+        w ∙ refused-where above 7 ∙ simp (le-ltb a (getD (r .levels) i 0) k)
+
+  pub guarded-as : (q k : Request) (v : Verdict) → q ≡ k → v ≡ guarded (guards (r .access) k) r → v ≡ guarded (guards (r .access) q) r
+  guarded-as q k v e w = w ∙ ap (λ (x : Request). guarded (guards (r .access) x) r) (sym e)
+
+  module _ (p i : ℕ) (v : Verdict) (e : i ≡ placeFor p) where
+    pub value-guarded : v ≡ guarded (valueGuards (r .access) i) r → v ≡ guarded (valueGuards (r .access) (placeFor p)) r
+    value-guarded w = w ∙ ap (λ (k : ℕ). guarded (valueGuards (r .access) k) r) e
+
+    pub level-guarded : (l : ℕ) → v ≡ guarded (levelGuards (r .access) i l) r → v ≡ guarded (levelGuards (r .access) (placeFor p) l) r
+    level-guarded l w = w ∙ ap (λ (k : ℕ). guarded (levelGuards (r .access) k l) r) e
+
+  -- ---- both
+  module _ (a b : Decision) (v : Verdict) (e : v ≡ andThen (decisionAs a) (decisionAs b)) where
+    pub value-decided : (i n : ℕ) → decisionAs a ≡ valueByItself i n → decisionAs b ≡ guarded (valueGuards (r .access) i) r → v ≡ valueVerdict i n r
+    unfolding valueVerdict
+    value-decided i n p q = both-decided a b v _ _ e p q
+
+    pub request-decided : (k : Request) → decisionAs a ≡ byItself k → decisionAs b ≡ guarded (guards (r .access) k) r → v ≡ verdictFor k r
+    unfolding verdictFor
+    request-decided k p q = both-decided a b v _ _ e p q
 
 pub ruleset deciding = (
-  phase-refused,
-  phase-passed,
-  keypad-refused,
-  keypad-passed,
-  level-refused,
-  level-above,
-  level-passed,
-  all-passed,
-  value-unlisted,
-  level-unlisted,
-  value-outside,
-  value-inside,
-  level-outside,
-  level-inside,
-  recipe-unknown,
-  recipe-known,
-  batch-of-none,
-  batch-of-some,
+  test-fails,
+  test-same,
+  first-refused,
+  both-decided,
   place-found,
   place-missing,
-  read-listed,
-  read-unlisted,
-  decided-as,
-  value-read,
-  level-read,
-  value-set,
-  level-set,
-  lt-ltb,
-  le-ltb,
+  range-tested,
+  itself-as,
+  place-itself,
+  value-itself,
+  level-itself,
+  beyond-last,
+  all-passed,
+  guards-then,
+  keypad-tested,
+  phase-tested,
+  level-refused,
+  level-tested,
+  guarded-as,
+  value-guarded,
+  level-guarded,
+  value-decided,
+  request-decided,
 )

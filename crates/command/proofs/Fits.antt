@@ -25,7 +25,7 @@ use Rattle.command.proofs.Applying.{first-passed, second-passed, test-p
 use Rattle.command.proofs.Tables.{Fitting}
 
 -- ---- a batch that a text asks for has at most six digits
-abbrev Bounded : Request → Type 0
+abbrev pub Bounded : Request → Type 0
 Bounded q = (n : ℕ) → q ≡ SetBatch n → n ≤ 999999
 
 picked : (b : Bool) (q k : Request) → (b ≡ true → Bounded q) → Bounded k → Bounded (pick b q k)
@@ -86,6 +86,10 @@ request-bounded c xs =
     (either (eqb c RE) _ _ (flag-bounded xs)
     (λ n e. never (cc)))))))))))))))))
 
+pub asked-bounded : (t : List ℕ) → Bounded (requestOf t)
+unfolding requestOf
+asked-bounded t = request-bounded (codeIn t) (drop 4 t)
+
 -- ---- the changes of an accepted request fit
 module _ (r : Record) (v : valid r ≡ true) where
   place-in : (i : ℕ) → refusedUnless (listed i) 4 ≡ accepted → i < parameterCount
@@ -124,5 +128,4 @@ module _ (r : Record) (v : valid r ≡ true) where
   fits ClearChanged b h = (omega arith, refl, tt)
 
   pub accepted-fits : (t : List ℕ) → verdictFor (requestOf t) r ≡ accepted → Fitting (changes (requestOf t) r)
-  unfolding requestOf
-  accepted-fits t h = fits (requestOf t) (request-bounded (codeIn t) (drop 4 t)) h
+  accepted-fits t h = fits (requestOf t) (asked-bounded t) h

@@ -17,11 +17,13 @@ use Rattle.frame.specs.Frame.{isDigit}
 use Rattle.frame.proofs.Laws.{next}
 use Rattle.command.specs.declared.Request.{Request}
 use Rattle.command.specs.declared.Request.the-variants as request
+use Rattle.command.specs.declared.Digits.{Digits}
+use Rattle.command.specs.declared.Digits.the-variants as digitsRead
 use Rattle.command.specs.declared.Numbers.{Numbers}
 use Rattle.command.specs.declared.Numbers.the-variants as numbersRead
 use Rattle.command.specs.Word.{space, digits, allDigits, valueFrom, valueOf, equal, oneOf}
 use Rattle.command.specs.Commands.{EQ, RS, TN, RR, RC, RT, PV, XV, PC, XC, NR, SB, SA, SP, ET, RE, codeIn, numbers, nothing, word, R-word, BD, PC-word, digitsBetween, behindSpace, formed}
-use Rattle.command.specs.Request.{parameterOf, lastOf, numbersOf, whole, volumeOf, flagOf, requestFor, requestOf}
+use Rattle.command.specs.Request.{numberFor, parameterOf, lastOf, numbersOf, whole, volumeOf, flagOf, requestFor, requestOf}
 
 never : _≡_ {A = ℕ} 0 1 → ⊥
 never e = omega arith
@@ -239,13 +241,44 @@ behind n s = take (length s - n) (drop n s)
 behind-is : (n : ℕ) (s : List ℕ) → behind n s ≡ drop n s
 behind-is n s = take-all (length s - n) (drop n s) (omega (arith, length-drop n s))
 
--- ---- `last_number`
+-- ---- `number`
 pub digits-yes : (s : List ℕ) (r : Bool) → r ≡ allDigits s → not r ≡ false → allDigits s ≡ true
 digits-yes s r e x = sym e ∙ not-false r x
 
-digits-no : (s : List ℕ) (r : Bool) → r ≡ allDigits s → not r ≡ true → allDigits s ≡ false
-digits-no s r e x = sym e ∙ not-true r x
+pub number-long : (s : List ℕ) → 8 < length s → digitsRead.Nothing ≡ numberFor s
+unfolding numberFor
+number-long s h = simp (lt-leb _ _ h)
 
+number-form : (s : List ℕ) → length s ≤ 8 → numberFor s ≡ pick (allDigits s) (digitsRead.Number (valueOf s)) digitsRead.Nothing
+unfolding numberFor
+number-form s h = simp (le-leb _ _ h)
+
+module _ (s : List ℕ) (r : Bool) (h : length s ≤ 8) (e : r ≡ allDigits s) where
+  pub number-letter : not r ≡ true → digitsRead.Nothing ≡ numberFor s
+  number-letter x = sym (number-form s h ∙ simp (sym e ∙ not-true r x))
+
+  pub number-digits : (n : ℕ) → not r ≡ false → n ≡ valueOf s → digitsRead.Number n ≡ numberFor s
+  number-digits n x v = sym (number-form s h ∙ simp (digits-yes s r e x, v))
+
+pub ruleset number-reading = (number-long, number-letter, number-digits)
+
+-- what its answers say
+picked-number : (t : Bool) (m n : ℕ) → pick t (digitsRead.Number m) digitsRead.Nothing ≡ digitsRead.Number n → (t ≡ true) × (n ≡ m)
+picked-number true m n e = (refl, (cc))
+picked-number false m n e = absurd (never (cc))
+
+picked-nothing : (t : Bool) (m : ℕ) → pick t (digitsRead.Number m) digitsRead.Nothing ≡ digitsRead.Nothing → t ≡ false
+picked-nothing true m e = absurd (never (cc))
+picked-nothing false m e = refl
+
+module _ (s : List ℕ) (h : length s ≤ 8) (d : Digits) (e : d ≡ numberFor s) where
+  number-read : (n : ℕ) → d ≡ digitsRead.Number n → (allDigits s ≡ true) × (n ≡ valueOf s)
+  number-read n z = picked-number (allDigits s) (valueOf s) n (sym (number-form s h) ∙ sym e ∙ z)
+
+  number-nothing : d ≡ digitsRead.Nothing → allDigits s ≡ false
+  number-nothing z = picked-nothing (allDigits s) (valueOf s) (sym (number-form s h) ∙ sym e ∙ z)
+
+-- ---- `last_number`
 pub last-none : (least most : ℕ) (s : List ℕ) → most ≡ 0 → length s ≡ 0 → numbersRead.Read 0 0 ≡ numbersOf false least most s
 unfolding numbersOf formed
 last-none least most [] z e = simp (eq-eqb _ _ z)
@@ -279,13 +312,17 @@ module _ (least most : ℕ) (s : List ℕ) (z : most ≡ 0 → ⊥) (y : length 
     pub last-many : least ≤ length (behind 1 s) → most < length (behind 1 s) → numbersRead.Malformed ≡ numbersOf false least most s
     last-many l u = sym (last-form least most s z y ∙ simp (eq-eqb _ _ h, le-leb _ _ l, lt-leb _ _ u))
 
-    pub last-letter : (r : Bool) → least ≤ length (behind 1 s) → length (behind 1 s) ≤ most → r ≡ allDigits (behind 1 s) → not r ≡ true
-        → numbersRead.Malformed ≡ numbersOf false least most s
-    last-letter r l u e x = sym (last-form least most s z y ∙ simp (eq-eqb _ _ h, le-leb _ _ l, le-leb _ _ u, digits-no _ r e x))
+    module _ (l : least ≤ length (behind 1 s)) (u : length (behind 1 s) ≤ most) (m : most ≤ 8) (d : Digits) (e : d ≡ numberFor (behind 1 s)) where
+      few : length (behind 1 s) ≤ 8
+      few = omega arith
 
-    pub last-read : (r : Bool) (n : ℕ) → least ≤ length (behind 1 s) → length (behind 1 s) ≤ most → r ≡ allDigits (behind 1 s) → not r ≡ false
-        → n ≡ valueOf (behind 1 s) → numbersRead.Read 0 n ≡ numbersOf false least most s
-    last-read r n l u e x v = sym (last-form least most s z y ∙ simp (eq-eqb _ _ h, le-leb _ _ l, le-leb _ _ u, digits-yes _ r e x, v))
+      pub last-letter : d ≡ digitsRead.Nothing → numbersRead.Malformed ≡ numbersOf false least most s
+      last-letter x = sym (last-form least most s z y ∙ simp (eq-eqb _ _ h, le-leb _ _ l, le-leb _ _ u, number-nothing (behind 1 s) few d e x))
+
+      pub last-read : (n : ℕ) → d ≡ digitsRead.Number n → numbersRead.Read 0 n ≡ numbersOf false least most s
+      last-read n x =
+          let i = number-read (behind 1 s) few d e n x in
+          sym (last-form least most s z y ∙ simp (eq-eqb _ _ h, le-leb _ _ l, le-leb _ _ u, i .0, i .1))
 
 pub ruleset last-reading = (last-none, last-extra, last-missing, last-space, last-few, last-many, last-letter, last-read)
 
@@ -305,11 +342,15 @@ value-below (x ∷ xs) a h =
     let q : (a + 1) * 10 ^ suc (length xs) ≡ ((a + 1) * 10) * k = ap (λ (y : ℕ). (a + 1) * y) p ∙ omega arith in
     omega arith
 
-pub parameter-small : (s : List ℕ) (n : ℕ) (r : Bool) → r ≡ allDigits (take 3 s) → not r ≡ false → n ≡ valueOf (take 3 s) → n < 10 ^ 3
-parameter-small s n r e x v =
-    let h : length (take 3 s) ≤ 3 = simp length-take (omega arith) in
+three : (s : List ℕ) → length (take 3 s) ≤ 3
+three s = simp length-take (omega arith)
+
+pub parameter-small : (s : List ℕ) (n : ℕ) (d : Digits) → d ≡ numberFor (take 3 s) → d ≡ digitsRead.Number n → n < 10 ^ 3
+parameter-small s n d e x =
+    let h : length (take 3 s) ≤ 3 = three s in
+    let i = number-read (take 3 s) (omega arith) d e n x in
     let p : 10 ^ length (take 3 s) ≤ 10 ^ 3 = pow-le-pow-right {n = 10} (omega arith) {i = length (take 3 s)} {j = 3} h in
-    omega (arith, value-below (take 3 s) 0 (digits-yes (take 3 s) r e x))
+    omega (arith, value-below (take 3 s) 0 (i .0))
 
 -- what was read, if anything was
 picked-read : (t : Bool) (m n a b : ℕ) → pick t (numbersRead.Read m n) numbersRead.Malformed ≡ numbersRead.Read a b → (t ≡ true) × (a ≡ m) × (b ≡ n)
@@ -349,18 +390,24 @@ module _ (least most : ℕ) (s : List ℕ) (h : 4 ≤ length s) where
   pub parameter-space : (getD s 0 0 ≡ 0x20 → ⊥) → numbersRead.Malformed ≡ numbersOf true least most s
   parameter-space d = sym (parameter-form least most s h ∙ simp (ne-eqb _ _ d))
 
-  module _ (r : Bool) (d : getD s 0 0 ≡ 0x20) (e : r ≡ allDigits (take 3 (drop 1 s))) where
-    pub parameter-letter : not r ≡ true → numbersRead.Malformed ≡ numbersOf true least most s
-    parameter-letter x = sym (parameter-form least most s h ∙ simp (eq-eqb _ _ d, digits-no _ r e x))
+  module _ (d : getD s 0 0 ≡ 0x20) (k : Digits) (e : k ≡ numberFor (take 3 (drop 1 s))) where
+    few-digits : length (take 3 (drop 1 s)) ≤ 8
+    few-digits = omega (arith, three (drop 1 s))
 
-    module _ (x : not r ≡ false) (q : Numbers) (z : q ≡ numbersOf false least most (behind 4 s)) where
+    pub parameter-letter : k ≡ digitsRead.Nothing → numbersRead.Malformed ≡ numbersOf true least most s
+    parameter-letter x = sym (parameter-form least most s h ∙ simp (eq-eqb _ _ d, number-nothing (take 3 (drop 1 s)) few-digits k e x))
+
+    module _ (n : ℕ) (x : k ≡ digitsRead.Number n) (q : Numbers) (z : q ≡ numbersOf false least most (behind 4 s)) where
       pub parameter-wrong : q ≡ numbersRead.Malformed → numbersRead.Malformed ≡ numbersOf true least most s
-      parameter-wrong y = sym (parameter-form least most s h ∙ simp (eq-eqb _ _ d, digits-yes _ r e x, numbers-malformed false least most (behind 4 s) q z y))
+      parameter-wrong y =
+          let j = number-read (take 3 (drop 1 s)) few-digits k e n x in
+          sym (parameter-form least most s h ∙ simp (eq-eqb _ _ d, j .0, numbers-malformed false least most (behind 4 s) q z y))
 
-      pub parameter-read : (a b n : ℕ) → n ≡ valueOf (take 3 (drop 1 s)) → q ≡ numbersRead.Read a b → numbersRead.Read n b ≡ numbersOf true least most s
-      parameter-read a b n v y =
+      pub parameter-read : (a b : ℕ) → q ≡ numbersRead.Read a b → numbersRead.Read n b ≡ numbersOf true least most s
+      parameter-read a b y =
+          let j = number-read (take 3 (drop 1 s)) few-digits k e n x in
           let i = numbers-read false least most (behind 4 s) q z a b y in
-          sym (parameter-form least most s h ∙ simp (eq-eqb _ _ d, digits-yes _ r e x, i .0, i .2, v))
+          sym (parameter-form least most s h ∙ simp (eq-eqb _ _ d, j .0, j .1, i .0, i .2))
 
 pub ruleset parameter-reading = (parameter-short, parameter-space, parameter-letter, parameter-wrong, parameter-read)
 

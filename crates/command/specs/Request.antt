@@ -1,10 +1,10 @@
 -- The same by steps, as the code takes them: a text is read as a request whose arguments are numbers, and the request is decided.
 -- `proofs/Agree.antt` shows that these steps give what the tables say.
 use Prim.Native.Nat.{ℕ}
-use mathlib.Core.Bool.{Bool, true, false, not, _||_}
+use mathlib.Core.Bool.{Bool, true, false, not, _&&_, _||_}
 use mathlib.Core.List.{List, [], _∷_, _++_}
 use lib.Dec.{eqb, leb, ltb}
-use lib.ListN.{take, drop}
+use lib.ListN.{length, take, drop}
 use Rattle.state.specs.declared.Record.{Record}
 use Rattle.base.specs.Test.{pick, between, member}
 use Rattle.state.specs.Parameter.{recipes, parameterCount, placeOf, rangeAt}
@@ -17,9 +17,11 @@ use Rattle.command.specs.declared.Refusal.{Refusal}
 use Rattle.command.specs.declared.Refusal.the-variants as refusal
 use Rattle.command.specs.declared.Decision.{Decision}
 use Rattle.command.specs.declared.Decision.the-variants as decision
+use Rattle.command.specs.declared.Digits.{Digits}
+use Rattle.command.specs.declared.Digits.the-variants as digitsRead
 use Rattle.command.specs.declared.Numbers.{Numbers}
 use Rattle.command.specs.declared.Numbers.the-variants as numbersRead
-use Rattle.command.specs.Word.{space, digits, valueOf, oneOf}
+use Rattle.command.specs.Word.{space, digits, allDigits, valueOf, oneOf}
 use Rattle.command.specs.Status.{statusCharacters, statusCodes, codesOn}
 use Rattle.command.specs.Commands.{EQ, RS, TN, RR, RC, RT, PV, XV, PC, XC, NR, SB, SA, SP, ET, RE, codeIn, Form, numbers, words, nothing, parameter, parameterAnd, aNumber, formed, behindSpace, placeNumber, word, spaced, BD, PC-word, R-word, OK, factorPlace, Change, _≔_, applied}
 use Rattle.command.specs.Answer.{Verdict, NO, accepted}
@@ -39,6 +41,10 @@ refusalNumber refusal.UnknownRecipe = 30
 abbrev pub decisionAs : Decision → Verdict
 decisionAs decision.Accepted = accepted
 decisionAs (decision.Refused k) = NO (refusalNumber k)
+
+-- ---- the number that up to eight digits are
+unfoldable pub numberFor : List ℕ → Digits
+numberFor xs = pick (leb (length xs) 8 && allDigits xs) (digitsRead.Number (valueOf xs)) digitsRead.Nothing
 
 -- ---- a text as a request; `xs` is what follows the code
 

@@ -18,11 +18,11 @@ ghost use mathlib.Core.List.{[], _∷_};
 ghost use Prim.Native.Nat.{_≤_, _<_};
 ghost use lib.ListN.{length};
 ghost use Rattle.state.specs.Parameter.{placeOf};
-ghost use Rattle.state.specs.Field.{Field, put};
+ghost use Rattle.state.specs.Field.{Field, get, put};
 ghost use Rattle.command.specs.Word.{allDigits, valueOf, equal};
 ghost use Rattle.command.specs.Commands.{nothing, placeNumber, applied};
 ghost use Rattle.command.specs.Answer.{accepted};
-ghost use Rattle.command.specs.Request.{numbersOf, whole, volumeOf, flagOf, requestOf, decisionAs, byItself, guarded, verdictFor, valueVerdict, levelVerdict, keypadGuard, phaseGuard, valueChanges, changes, valueServed, servedOf};
+ghost use Rattle.command.specs.Request.{numberFor, numbersOf, whole, volumeOf, flagOf, requestOf, refusalNumber, decisionAs, refusedUnless, listed, andThen, valueByItself, levelByItself, byItself, keypadGuard, levelGuard, phaseGuard, valueGuards, levelGuards, guards, guarded, verdictFor, valueVerdict, valueChanges, changes, valueServed, servedOf};
 
 // A request with its arguments as numbers; a parameter is given by its code.
 pub enum Request {
@@ -95,6 +95,12 @@ pub enum Decision {
     Refused(Refusal),
 }
 
+// The number that up to eight digits are, that of none being 0; or nothing for any other text.
+pub enum Digits {
+    Number(u32),
+    Nothing,
+}
+
 // A parameter code and a number, 0 where the form has none.
 enum Numbers {
     Read(u16, u32),
@@ -126,8 +132,21 @@ fn value(s: &[u8]) -> u32
     n
 }
 
+// Up to eight digits as a number; no digits are 0.
+pub fn number(s: &[u8]) -> Digits
+    ensures { λ d. ⌜ d ≡ numberFor (now (s .entry)) ⌝ }
+{
+    if 8 < s.len() {
+        return Digits::Nothing;
+    }
+    if !all_digits(s) {
+        return Digits::Nothing;
+    }
+    Digits::Number(value(s))
+}
+
 // The bytes are the word.
-fn is_word(s: &[u8], word: &[u8]) -> bool
+pub fn is_word(s: &[u8], word: &[u8]) -> bool
     ensures { λ b. ⌜ b ≡ equal (now (s .entry)) (now (word .entry)) ⌝ }
 {
     if s.len() != word.len() {
@@ -167,10 +186,10 @@ fn last_number(s: &[u8], least: usize, most: usize) -> Numbers
     if most < digits.len() {
         return Numbers::Malformed;
     }
-    if !all_digits(digits) {
+    let Digits::Number(n) = number(digits) else {
         return Numbers::Malformed;
-    }
-    Numbers::Read(0, value(digits))
+    };
+    Numbers::Read(0, n)
 }
 
 // A parameter code of three digits behind a space, and then as above.
@@ -184,14 +203,14 @@ fn parameter_and(s: &[u8], least: usize, most: usize) -> Numbers
     if s[0] != SPACE {
         return Numbers::Malformed;
     }
-    if !all_digits(&s[1..4]) {
-        return Numbers::Malformed;
-    }
-    let parameter = value(&s[1..4]) as u16;
-    let Numbers::Read(_, number) = last_number(&s[4..], least, most) else {
+    let Digits::Number(code) = number(&s[1..4]) else {
         return Numbers::Malformed;
     };
-    Numbers::Read(parameter, number)
+    let parameter = code as u16;
+    let Numbers::Read(_, last) = last_number(&s[4..], least, most) else {
+        return Numbers::Malformed;
+    };
+    Numbers::Read(parameter, last)
 }
 
 // The request if nothing follows the code.
@@ -304,109 +323,53 @@ pub fn parse(text: &[u8]) -> Request
 
 // ---- deciding a request
 
-fn by_phase(r: Record, phases: &[u8]) -> Decision
-    ensures { λ d. ⌜ decisionAs d ≡ guarded (phaseGuard (now (phases .entry)) ∷ []) r ⌝ }
+fn refused_unless(passes: bool, refusal: Refusal) -> Decision
+    ensures { λ d. ⌜ decisionAs d ≡ refusedUnless passes (refusalNumber refusal) ⌝ }
 {
-    let phase = r.phase;
-    if !is_among(state::phase_number(phase), phases) {
-        return Decision::Refused(Refusal::Phase);
+    if passes {
+        return Decision::Accepted;
     }
-    Decision::Accepted
+    Decision::Refused(refusal)
 }
 
-fn by_keypad_and_phase(r: Record, phases: &[u8]) -> Decision
-    ensures { λ d. ⌜ decisionAs d ≡ guarded (keypadGuard ∷ phaseGuard (now (phases .entry)) ∷ []) r ⌝ }
+// The first of two decisions that refuses, or that both accept.
+fn and_then(first: Decision, second: Decision) -> Decision
+    ensures { λ d. ⌜ decisionAs d ≡ andThen (decisionAs first) (decisionAs second) ⌝ }
 {
-    if r.keypad {
-        return Decision::Refused(Refusal::Keypad);
+    match first {
+        Decision::Accepted => second,
+        Decision::Refused(refusal) => Decision::Refused(refusal),
     }
-    by_phase(r, phases)
 }
 
-fn by_keypad(r: Record) -> Decision
-    ensures { λ d. ⌜ decisionAs d ≡ guarded (keypadGuard ∷ []) r ⌝ }
+// ---- what refuses it whatever the record
+
+// A place beyond the last is not in the list.
+fn by_place(place: usize) -> Decision
+    ensures { λ d. ⌜ decisionAs d ≡ refusedUnless (listed place) 4 ⌝ }
 {
-    if r.keypad {
-        return Decision::Refused(Refusal::Keypad);
-    }
-    Decision::Accepted
+    refused_unless(place < PARAMETERS, Refusal::UnknownParameter)
 }
 
-// PC by place and value: what refuses it once its form is known. A place beyond the last is not in the list.
-fn decide_value(r: Record, place: usize, value: u32) -> Decision
-    ensures { λ d. ⌜ decisionAs d ≡ valueVerdict place value r ⌝ }
+// PC by place and value.
+fn value_by_itself(place: usize, value: u32) -> Decision
+    ensures { λ d. ⌜ decisionAs d ≡ valueByItself place value ⌝ }
 {
-    if PARAMETERS <= place {
-        return Decision::Refused(Refusal::UnknownParameter);
-    }
     let range = state::range_at(place);
-    if !is_between(range.low, range.high, value) {
-        return Decision::Refused(Refusal::Range);
-    }
-    if r.keypad {
-        return Decision::Refused(Refusal::Keypad);
-    }
-    if r.access < r.levels[place] {
-        return Decision::Refused(Refusal::Level);
-    }
-    by_phase(r, &[IDLE, DONE])
+    let inside = is_between(range.low, range.high, value);
+    and_then(by_place(place), refused_unless(inside, Refusal::Range))
 }
 
 // XC by place and level.
-fn decide_level(r: Record, place: usize, level: u32) -> Decision
-    ensures { λ d. ⌜ decisionAs d ≡ levelVerdict place level r ⌝ }
+fn level_by_itself(place: usize, level: u32) -> Decision
+    ensures { λ d. ⌜ decisionAs d ≡ levelByItself place level ⌝ }
 {
-    if PARAMETERS <= place {
-        return Decision::Refused(Refusal::UnknownParameter);
-    }
-    if 3 < level {
-        return Decision::Refused(Refusal::Range);
-    }
-    if r.keypad {
-        return Decision::Refused(Refusal::Keypad);
-    }
-    if r.access < r.levels[place] {
-        return Decision::Refused(Refusal::Level);
-    }
-    if (r.access as u32) < level {
-        return Decision::Refused(Refusal::Level);
-    }
-    Decision::Accepted
+    and_then(by_place(place), refused_unless(level <= 3, Refusal::Range))
 }
 
-// NR
-fn decide_recipe(r: Record, recipe: u32) -> Decision
-    ensures { λ d. ⌜ decisionAs d ≡ verdictFor (Request.SelectRecipe recipe) r ⌝ }
-{
-    if !is_between(1, RECIPES as u32, recipe) {
-        return Decision::Refused(Refusal::UnknownRecipe);
-    }
-    by_keypad_and_phase(r, &[IDLE, DONE])
-}
-
-// SB
-fn decide_batch(r: Record, preset: u32) -> Decision
-    ensures { λ d. ⌜ decisionAs d ≡ verdictFor (Request.SetBatch preset) r ⌝ }
-{
-    if preset == 0 {
-        return Decision::Refused(Refusal::Range);
-    }
-    by_keypad_and_phase(r, &[IDLE, DONE])
-}
-
-// A read of a parameter.
-fn decide_read(code: u16) -> Decision
-    ensures { λ d. ⌜ decisionAs d ≡ byItself (Request.Value code) ⌝ }
-{
-    let Place::At(_) = place_of(code) else {
-        return Decision::Refused(Refusal::UnknownParameter);
-    };
-    Decision::Accepted
-}
-
-// What refuses a request, or that it is accepted.
-fn decide(r: Record, request: Request) -> Decision
-    ensures { λ d. ⌜ decisionAs d ≡ verdictFor request r ⌝ }
+// What refuses a request whatever the record: NO00, NO01, NO08, NO04, NO30, NO06.
+pub fn by_itself(request: Request) -> Decision
+    ensures { λ d. ⌜ decisionAs d ≡ byItself request ⌝ }
 {
     match request {
         Request::Unknown => Decision::Refused(Refusal::UnknownCode),
@@ -418,18 +381,123 @@ fn decide(r: Record, request: Request) -> Decision
         Request::Recipe => Decision::Accepted,
         Request::Composition => Decision::Accepted,
         Request::Raw => Decision::Accepted,
-        Request::Value(code) => decide_read(code),
-        Request::Level(code) => decide_read(code),
-        Request::SetValue(code, value) => decide_value(r, place(code), value),
-        Request::SetLevel(code, level) => decide_level(r, place(code), level),
-        Request::SelectRecipe(recipe) => decide_recipe(r, recipe),
-        Request::SetBatch(preset) => decide_batch(r, preset),
+        Request::Value(code) => by_place(place(code)),
+        Request::Level(code) => by_place(place(code)),
+        Request::SetValue(code, value) => value_by_itself(place(code), value),
+        Request::SetLevel(code, level) => level_by_itself(place(code), level),
+        Request::SelectRecipe(recipe) => {
+            let known = is_between(1, RECIPES as u32, recipe);
+            refused_unless(known, Refusal::UnknownRecipe)
+        }
+        Request::SetBatch(preset) => refused_unless(1 <= preset, Refusal::Range),
+        Request::Start => Decision::Accepted,
+        Request::Stop => Decision::Accepted,
+        Request::End => Decision::Accepted,
+        Request::ClearReset => Decision::Accepted,
+        Request::ClearChanged => Decision::Accepted,
+    }
+}
+
+// ---- what refuses it by the record
+
+fn by_keypad(r: Record) -> Decision
+    ensures { λ d. ⌜ decisionAs d ≡ guarded (keypadGuard ∷ []) r ⌝ }
+{
+    refused_unless(!r.keypad, Refusal::Keypad)
+}
+
+fn by_phase(r: Record, phases: &[u8]) -> Decision
+    ensures { λ d. ⌜ decisionAs d ≡ guarded (phaseGuard (now (phases .entry)) ∷ []) r ⌝ }
+{
+    let phase = r.phase;
+    let among = is_among(state::phase_number(phase), phases);
+    refused_unless(among, Refusal::Phase)
+}
+
+fn by_keypad_and_phase(r: Record, phases: &[u8]) -> Decision
+    ensures { λ d. ⌜ decisionAs d ≡ guarded (keypadGuard ∷ phaseGuard (now (phases .entry)) ∷ []) r ⌝ }
+{
+    and_then(by_keypad(r), by_phase(r, phases))
+}
+
+// The level at a place; 0 beyond the last.
+fn level_at(r: Record, place: usize) -> u8
+    ensures { λ n. ⌜ n ≡ get (Field.level place) r ⌝ }
+{
+    if place < PARAMETERS {
+        return r.levels[place];
+    }
+    0
+}
+
+// Refused where the level at the place is above the access, or where `above` says that a new level is.
+fn by_level(r: Record, place: usize, above: bool) -> Decision
+    ensures { λ d. ⌜ decisionAs d ≡ guarded (levelGuard (get Field.access r) above place ∷ []) r ⌝ }
+{
+    if r.access < level_at(r, place) {
+        return Decision::Refused(Refusal::Level);
+    }
+    refused_unless(!above, Refusal::Level)
+}
+
+// PC by place.
+fn value_by_record(r: Record, place: usize) -> Decision
+    ensures { λ d. ⌜ decisionAs d ≡ guarded (valueGuards (get Field.access r) place) r ⌝ }
+{
+    let by_level_and_phase = and_then(by_level(r, place, false), by_phase(r, &[IDLE, DONE]));
+    and_then(by_keypad(r), by_level_and_phase)
+}
+
+// XC by place and level.
+fn level_by_record(r: Record, place: usize, level: u32) -> Decision
+    ensures { λ d. ⌜ decisionAs d ≡ guarded (levelGuards (get Field.access r) place level) r ⌝ }
+{
+    let above = (r.access as u32) < level;
+    and_then(by_keypad(r), by_level(r, place, above))
+}
+
+// What refuses a request by the record: NO02, NO07, NO05.
+fn by_record(r: Record, request: Request) -> Decision
+    ensures { λ d. ⌜ decisionAs d ≡ guarded (guards (get Field.access r) request) r ⌝ }
+{
+    match request {
+        Request::Unknown => Decision::Accepted,
+        Request::Malformed => Decision::Accepted,
+        Request::NotServed => Decision::Accepted,
+        Request::Status => Decision::Accepted,
+        Request::Codes => Decision::Accepted,
+        Request::Number => Decision::Accepted,
+        Request::Recipe => Decision::Accepted,
+        Request::Composition => Decision::Accepted,
+        Request::Raw => Decision::Accepted,
+        Request::Value(_) => Decision::Accepted,
+        Request::Level(_) => Decision::Accepted,
+        Request::SetValue(code, _) => value_by_record(r, place(code)),
+        Request::SetLevel(code, level) => level_by_record(r, place(code), level),
+        Request::SelectRecipe(_) => by_keypad_and_phase(r, &[IDLE, DONE]),
+        Request::SetBatch(_) => by_keypad_and_phase(r, &[IDLE, DONE]),
         Request::Start => by_keypad_and_phase(r, &[SET, STOPPED]),
         Request::Stop => by_phase(r, &[RUNNING]),
         Request::End => by_keypad_and_phase(r, &[SET, STOPPED, DONE]),
         Request::ClearReset => by_keypad(r),
         Request::ClearChanged => by_keypad(r),
     }
+}
+
+// ---- both, the record last
+
+// PC by place and value.
+fn decide_value(r: Record, place: usize, value: u32) -> Decision
+    ensures { λ d. ⌜ decisionAs d ≡ valueVerdict place value r ⌝ }
+{
+    and_then(value_by_itself(place, value), value_by_record(r, place))
+}
+
+// What refuses a request, or that it is accepted.
+fn decide(r: Record, request: Request) -> Decision
+    ensures { λ d. ⌜ decisionAs d ≡ verdictFor request r ⌝ }
+{
+    and_then(by_itself(request), by_record(r, request))
 }
 
 // The place of a parameter code; beyond the last if it has none.

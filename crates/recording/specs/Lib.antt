@@ -1,3 +1,4 @@
 pub mod Form
 pub mod Replay
 pub mod Statement
+pub mod Progress

@@ -40,7 +40,7 @@ pub enum Read {
     Recorded(u8, u8, usize),
 }
 
-const HEADER: usize = 5;
+pub const HEADER: usize = 5;
 
 // The exchange that starts at a place.
 pub fn exchange_at(s: &[u8], at: usize) -> Next

@@ -269,7 +269,7 @@ module _ (r : Record) where
   unfolding storedForm
   form-rest = drop-at (bigEndian 2 (storedLength current)) (pack (layout current) (numbersOf current r)) 2 (big-length 2 (storedLength current))
 
-  form-length : length (storedForm r) ≡ storedLength current
+  pub form-length : length (storedForm r) ≡ storedLength current
   unfolding storedForm
   form-length =
       let p = pack-length (layout current) (numbersOf current r) numbers-long in

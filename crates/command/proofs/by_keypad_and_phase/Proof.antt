@@ -4,14 +4,18 @@ use borrow.Author.Needs.{needs}
 use Rattle.command.proofs.by_keypad_and_phase.Statement.{statement}
 use Rattle.command.proofs.by_keypad_and_phase.Tie as tie
 
-returns : tie.Need-returns
-returns c = search deciding
+by-keypad-requires : tie.Need-by-keypad-requires
+by-keypad-requires c κs = search needs
 
 by-phase-requires : tie.Need-by-phase-requires
 by-phase-requires c κs = search needs
 
-returns-2 : tie.Need-returns-2
-returns-2 c = search deciding
+and-then-requires : tie.Need-and-then-requires
+and-then-requires c κs = search needs
+
+returns : tie.Need-returns
+returns c = search deciding
 
 pub by-keypad-and-phase-spec : {M : Type 1} → statement M
-by-keypad-and-phase-spec = tie.close (tie.spec returns by-phase-requires returns-2)
+by-keypad-and-phase-spec =
+    tie.close (tie.spec by-keypad-requires by-phase-requires and-then-requires returns)

@@ -10,11 +10,12 @@ phase-number-requires c κs = search needs
 is-among-requires : tie.Need-is-among-requires
 is-among-requires c κs = search needs
 
+refused-unless-requires : tie.Need-refused-unless-requires
+refused-unless-requires c κs = search needs
+
 returns : tie.Need-returns
 returns c = search deciding
 
-returns-2 : tie.Need-returns-2
-returns-2 c = search deciding
-
 pub by-phase-spec : {M : Type 1} → statement M
-by-phase-spec = tie.close (tie.spec phase-number-requires is-among-requires returns returns-2)
+by-phase-spec =
+    tie.close (tie.spec phase-number-requires is-among-requires refused-unless-requires returns)

@@ -1,8 +1,6 @@
--- `command::last_number` meets its contract, one law of `Parsing` for each return; what passed the tests is at most eight digits.
--- Assumes nothing.
-use native.Mathlib.Omega.{arith}
+-- `command::last_number` meets its contract, one law of `Parsing` for each return. Assumes nothing.
+use Rattle.command.proofs.Parsing.{last-reading}
 use borrow.Author.Needs.{needs}
-use Rattle.command.proofs.Parsing.{last-reading, digits-yes}
 use Rattle.command.proofs.last_number.Statement.{statement}
 use Rattle.command.proofs.last_number.Tie as tie
 
@@ -36,14 +34,17 @@ returns-5 c = search last-reading
 returns-6 : tie.Need-returns-6
 returns-6 c = search last-reading
 
-all-digits-requires : tie.Need-all-digits-requires
-all-digits-requires c κs = search needs
+number-requires : tie.Need-number-requires
+number-requires c κs = search needs
+
+enum-known-n : tie.Need-enum-known-n
+enum-known-n c = search needs
+
+enum-told : tie.Need-enum-told
+enum-told c = search needs
 
 returns-7 : tie.Need-returns-7
 returns-7 c = search last-reading
-
-value-requires : tie.Need-value-requires
-value-requires c κs = (omega arith, digits-yes _ _ (c .before .all-digits .ensures) (c .if7 .left))
 
 returns-8 : tie.Need-returns-8
 returns-8 c = search last-reading
@@ -62,7 +63,8 @@ last-number-spec =
     part-digits-end
     returns-5
     returns-6
-    all-digits-requires
+    number-requires
+    enum-known-n
+    enum-told
     returns-7
-    value-requires
     returns-8)

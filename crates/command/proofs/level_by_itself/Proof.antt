@@ -1,0 +1,21 @@
+-- `command::level_by_itself` meets its contract: the place first, and then the level. Assumes nothing.
+use Rattle.command.proofs.Deciding.{deciding}
+use borrow.Author.Needs.{needs}
+use Rattle.command.proofs.level_by_itself.Statement.{statement}
+use Rattle.command.proofs.level_by_itself.Tie as tie
+
+by-place-requires : tie.Need-by-place-requires
+by-place-requires c κs = search needs
+
+refused-unless-requires : tie.Need-refused-unless-requires
+refused-unless-requires c κs = search needs
+
+and-then-requires : tie.Need-and-then-requires
+and-then-requires c κs = search needs
+
+returns : tie.Need-returns
+returns c = search deciding
+
+pub level-by-itself-spec : {M : Type 1} → statement M
+level-by-itself-spec =
+    tie.close (tie.spec by-place-requires refused-unless-requires and-then-requires returns)

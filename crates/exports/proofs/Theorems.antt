@@ -1,0 +1,311 @@
+-- What a caller can rely on, for any numbers, bytes and lengths: which numbers are answered, what a refusal or a silence leaves, and
+-- that the stored bytes read back as the record after. Each follows from the definitions by their cases. Assumes nothing.
+use Prim.Native.Nat.{ℕ, _+_, _≤_, _<_}
+use mathlib.Core.Bool.{Bool, true, false}
+use mathlib.Core.Path.{_≡_, refl, sym, ap, subst, _∙_}
+use mathlib.Core.List.{List}
+use mathlib.Core.Logic.{_⊎_, inl, inr, ⊎-elim}
+use native.Mathlib.Omega.{arith}
+use lib.Dec.{eqb, leb}
+use lib.ListN.{length, take, drop, getD}
+use lib.Seq.{take-length}
+use borrow.Author.Tests.{eq-eqb, ne-eqb, le-leb, leb-true}
+use Rattle.base.specs.Test.{unless, between}
+use Rattle.base.specs.Lists.{over}
+use Rattle.state.specs.declared.Record.{Record}
+use Rattle.state.specs.Valid.{valid}
+use Rattle.state.specs.Event.{after}
+use Rattle.state.specs.Field.{address, get}
+use Rattle.state.proofs.Kept.{after-kept}
+use Rattle.stored.specs.Layout.{current, layout, recordOf}
+use Rattle.stored.specs.Form as stored
+use Rattle.stored.specs.Form.{K, done, numberOf, unpack, allIn, storedLength, storedForm, writeOf, headerOf, lowRecord, bodyOf, afterHeader}
+use Rattle.stored.proofs.RoundTrip.{form-length, read-valid, read-written}
+use Rattle.frame.specs.declared.Kind.{Kind}
+use Rattle.frame.specs.Frame.{allText, namesUnit, addressIn, frameOf, textIn, withinLimits, marksRight, checkRight}
+use Rattle.frame.specs.Numbers.{Answer, H, S, accepted, unit}
+use Rattle.frame.specs.Answer as frame
+use Rattle.frame.proofs.Laws.{frame-length, tail-low, framed, found-sizes, taken}
+use Rattle.frame.proofs.RoundTrip.{read-built}
+use Rattle.controller.specs.Call.{Outcome, silent, replied, callOf}
+use Rattle.controller.proofs.Theorems.{Silenced, Answered, every-input, call-keeps-valid}
+use Rattle.exports.specs.Bytes.{silenceAnswer, storedAnswer, noSuch, hostLeft, isKind, kindOf, isEvent, eventOf, callLeft, callRead, callBytes, panelRead, panelBytes, storedBytes, buildBytes, readBytes}
+use Rattle.exports.proofs.Steps.{tail-high, over-whole}
+
+-- what holds of both holds of the one that a test leaves
+either : {A : Type 0} (P : A → Type 0) (b : Bool) (x y : A) → P x → P y → P (unless b x y)
+either P true x y p q = q
+either P false x y p q = p
+
+abbrev pub Within : ℕ → ℕ → ℕ → Type 0
+Within low high n = (low ≤ n) × (n ≤ high)
+
+-- ---- stored bytes are refused by K1 to K4, and beside the number stands the low record
+abbrev Header : stored.Outcome → Type 0
+Header (K n) = Within 1 4 n
+Header done = Unit {0}
+
+abbrev Reading : stored.Outcome × Record → Type 0
+Reading (K n, r) = Within 1 4 n × (r ≡ lowRecord)
+Reading (done, r) = Unit {0}
+
+header-known : (s : List ℕ) → Header (headerOf s)
+unfolding headerOf
+header-known s =
+    go (eqb (length s) (storedLength current)) (eqb (getD s 0 0) current) (eqb (numberOf (take 2 (drop 1 s))) (storedLength current))
+  where
+    go : (a b c : Bool) → Header (unless a (K 1) (unless b (K 2) (unless c (K 3) done)))
+    go false b c = omega arith
+    go true false c = omega arith
+    go true true false = omega arith
+    go true true true = tt
+
+read-known : (s : List ℕ) → Reading (stored.readOf s)
+unfolding stored.readOf bodyOf
+read-known s = go (headerOf s) (header-known s)
+  where
+    body : (b : Bool) → Reading (unless b (K 4, lowRecord) (done, recordOf (unpack (layout current) (drop 3 s))))
+    body true = tt
+    body false = (omega arith, refl)
+
+    go : (h : stored.Outcome) → Header h → Reading (afterHeader h s)
+    go (K n) k = (k, refl)
+    go done k = body (allIn (layout current) (unpack (layout current) (drop 3 s)))
+
+read-refusal : (s : List ℕ) (n : ℕ) (r : Record) → stored.readOf s ≡ (K n, r) → Within 1 4 n × (r ≡ lowRecord)
+read-refusal s n r e = subst Reading e (read-known s)
+
+read-so-valid : (s : List ℕ) (r : Record) → stored.readOf s ≡ (done, r) → valid r ≡ true
+read-so-valid s r e = ap (λ (p : stored.Outcome × Record). valid (p .1)) (sym e) ∙ read-valid s
+
+-- a stored form reads back as its record
+pub form-read : (r : Record) → valid r ≡ true → stored.readOf (storedForm r) ≡ (done, r)
+unfolding writeOf
+form-read r v =
+    let l : storedLength current ≤ length (storedForm r) = omega (arith, form-length r) in
+    let w : writeOf r (storedForm r) ≡ (done, storedForm r) = simp (v, le-leb _ _ l) (ap (λ (x : List ℕ). (done, x)) (over-whole (storedForm r) (storedForm r) refl)) in
+    let t : take (storedLength current) (storedForm r) ≡ storedForm r =
+    ap (λ (n : ℕ). take n (storedForm r)) (sym (form-length r)) ∙ take-length (storedForm r) in
+    ap stored.readOf (sym t) ∙ read-written r (storedForm r) (storedForm r) w
+
+-- ---- a valid record never meets S1
+never-first : (k : Kind) (r : Record) (q o : List ℕ) → valid r ≡ true → callOf k r q o .silence ≡ 1 → ⊥
+unfolding callOf
+never-first k r q o v =
+    simp v (go (leb 64 (length o)) (withinLimits k (length q)) (marksRight k q) (checkRight k q) (allText (textIn k q)) (namesUnit (textIn k q))
+    (eqb (addressIn (textIn k q)) (get address r)))
+  where
+    go : (b c d e f g h : Bool)
+        → unless b (silent 2 r o) (unless c (silent 3 r o) (unless d (silent 4 r o) (unless e (silent 5 r o) (unless f (silent 6 r o) (unless g (silent 7 r o)
+        (unless h (silent 8 r o) (replied k (textIn k q) r o))))))) .silence ≡ 1 → ⊥
+    go false c d e f g h z = omega arith
+    go true false d e f g h z = omega arith
+    go true true false e f g h z = omega arith
+    go true true true false f g h z = omega arith
+    go true true true true false g h z = omega arith
+    go true true true true true false h z = omega arith
+    go true true true true true true false z = omega arith
+    go true true true true true true true z = omega arith
+
+-- ---- `khuyapesh_call`
+
+-- on bytes that are stored right it answers as `callOf` says
+module _ (kind : ℕ) (s q o : List ℕ) where
+  module _ (r : Record) where
+    abbrev called : Outcome
+    called = callOf (kindOf kind) r q o
+
+    left-heard : called .silence ≡ 0 → callLeft called s o ≡ (called .reported, (storedForm (called .after), called .buffer))
+    unfolding callLeft
+    left-heard h = simp (eq-eqb _ _ h)
+
+    left-silent : (called .silence ≡ 0 → ⊥) → callLeft called s o ≡ (silenceAnswer (called .silence), (s, o))
+    unfolding callLeft
+    left-silent h = simp (ne-eqb _ _ h)
+
+    module _ (known : kind ≤ 1) (e : stored.readOf s ≡ (done, r)) where
+      whole : callBytes kind s q o ≡ callLeft called s o
+      unfolding callBytes
+      whole = simp (le-leb kind 1 known) (ap (λ (p : stored.Outcome × Record). callRead (kindOf kind) p s q o) e)
+
+      pub call-heard : called .silence ≡ 0 → callBytes kind s q o ≡ (called .reported, (storedForm (called .after), called .buffer))
+      call-heard h = whole ∙ left-heard h
+
+      pub call-silent : (called .silence ≡ 0 → ⊥) → callBytes kind s q o ≡ (silenceAnswer (called .silence), (s, o))
+      call-silent h = whole ∙ left-silent h
+
+  -- the cases of a call
+  call-cases : (P : ℕ × (List ℕ × List ℕ) → Type 0) → P (noSuch, (s, o)) → ((n : ℕ) → Within 1 4 n → P (200 + n, (s, o)))
+      → ((n : ℕ) → Within 2 8 n → P (silenceAnswer n, (s, o)))
+      → ((r : Record) → stored.readOf s ≡ (done, r) → Answered (kindOf kind) r q o → P (called r .reported, (storedForm (called r .after), called r .buffer)))
+      → P (callBytes kind s q o)
+  unfolding callBytes
+  call-cases P none refused silenced heard = either P (isKind kind) (noSuch, (s, o)) (callRead (kindOf kind) (stored.readOf s) s q o) none (go (stored.readOf s) refl)
+    where
+      go : (x : stored.Outcome × Record) → stored.readOf s ≡ x → P (callRead (kindOf kind) x s q o)
+      go (K n, r) e = refused n (read-refusal s n r e .0)
+      go (done, r) e =
+          ⊎-elim
+          (λ (x : Silenced (kindOf kind) r q o).
+          let l : 1 ≤ called r .silence = x .low in
+          let h : called r .silence ≤ 8 = x .high in
+          let z : called r .silence ≡ 1 → ⊥ = never-first (kindOf kind) r q o (read-so-valid s r e) in
+          subst P (sym (left-silent r (λ y. omega arith))) (silenced (called r .silence) (omega arith)))
+          (λ (x : Answered (kindOf kind) r q o). subst P (sym (left-heard r (x .heard))) (heard r e x))
+          (every-input (kindOf kind) r q o)
+
+  -- "the reply's length", "or 300, then 201 to 204, then 102 to 108"; so 101 never comes back, and an answer below 100 is a reply
+  pub call-numbers : Within 7 64 (callBytes kind s q o .0) ⊎ (Within 102 108 (callBytes kind s q o .0) ⊎ (Within 201 204 (callBytes kind s q o .0) ⊎ (callBytes kind s q o .0 ≡ 300)))
+  call-numbers =
+      call-cases (λ (p : ℕ × (List ℕ × List ℕ)). Within 7 64 (p .0) ⊎ (Within 102 108 (p .0) ⊎ (Within 201 204 (p .0) ⊎ (p .0 ≡ 300)))) (inr (inr (inr refl)))
+      (λ n w. inr (inr (inl (omega arith)))) (λ n w. inr (inl (omega arith))) (λ r e x. inl (x .low, x .high))
+
+  -- "A refusal or silence leaves every lent byte as it was"
+  pub call-keeps : 100 ≤ callBytes kind s q o .0 → callBytes kind s q o .1 ≡ (s, o)
+  call-keeps =
+      call-cases (λ (p : ℕ × (List ℕ × List ℕ)). 100 ≤ p .0 → p .1 ≡ (s, o)) (λ h. refl) (λ n w h. refl) (λ n w h. refl)
+      (λ r e x h. absurd (omega (arith, x .high)))
+
+  -- "the record after it in place of the stored record": it is what the stored bytes then read as
+  pub call-stores : callBytes kind s q o .0 < 100 → stored.readOf (callBytes kind s q o .1 .0) ≡ (done, callOf (kindOf kind) (stored.readOf s .1) q o .after)
+  call-stores =
+      call-cases (λ (p : ℕ × (List ℕ × List ℕ)). p .0 < 100 → stored.readOf (p .1 .0) ≡ (done, callOf (kindOf kind) (stored.readOf s .1) q o .after))
+      (λ h. absurd (omega arith)) (λ n w h. absurd (omega arith)) (λ n w h. absurd (omega arith))
+      (λ r e x h.
+      form-read (called r .after) (call-keeps-valid (kindOf kind) r q o (read-so-valid s r e))
+      ∙ ap (λ (y : stored.Outcome × Record). (done, callOf (kindOf kind) (y .1) q o .after)) (sym e))
+
+-- ---- `khuyapesh_panel`
+module _ (event pulses : ℕ) (s : List ℕ) where
+  panel-cases : (P : ℕ × List ℕ → Type 0) → P (noSuch, s) → ((n : ℕ) → Within 1 4 n → P (200 + n, s))
+      → ((r : Record) → stored.readOf s ≡ (done, r) → P (0, storedForm (after (eventOf event pulses) r))) → P (panelBytes event pulses s)
+  unfolding panelBytes
+  panel-cases P none refused stored-so = either P (isEvent event) (noSuch, s) (panelRead (eventOf event pulses) (stored.readOf s) s) none (go (stored.readOf s) refl)
+    where
+      go : (x : stored.Outcome × Record) → stored.readOf s ≡ x → P (panelRead (eventOf event pulses) x s)
+      go (K n, r) e = refused n (read-refusal s n r e .0)
+      go (done, r) e = stored-so r e
+
+  pub panel-numbers : (panelBytes event pulses s .0 ≡ 0) ⊎ (Within 201 204 (panelBytes event pulses s .0) ⊎ (panelBytes event pulses s .0 ≡ 300))
+  panel-numbers =
+      panel-cases (λ (p : ℕ × List ℕ). (p .0 ≡ 0) ⊎ (Within 201 204 (p .0) ⊎ (p .0 ≡ 300))) (inr (inr refl)) (λ n w. inr (inl (omega arith))) (λ r e. inl refl)
+
+  pub panel-keeps : 100 ≤ panelBytes event pulses s .0 → panelBytes event pulses s .1 ≡ s
+  panel-keeps = panel-cases (λ (p : ℕ × List ℕ). 100 ≤ p .0 → p .1 ≡ s) (λ h. refl) (λ n w h. refl) (λ r e h. absurd (omega arith))
+
+  pub panel-stores : panelBytes event pulses s .0 ≡ 0 → stored.readOf (panelBytes event pulses s .1) ≡ (done, after (eventOf event pulses) (stored.readOf s .1))
+  panel-stores =
+      panel-cases (λ (p : ℕ × List ℕ). p .0 ≡ 0 → stored.readOf (p .1) ≡ (done, after (eventOf event pulses) (stored.readOf s .1))) (λ h. absurd (omega arith))
+      (λ n w h. absurd (omega arith))
+      (λ r e h.
+      form-read (after (eventOf event pulses) r) (after-kept r (read-so-valid s r e) (eventOf event pulses))
+      ∙ ap (λ (y : stored.Outcome × Record). (done, after (eventOf event pulses) (y .1))) (sym e))
+
+-- ---- `khuyapesh_stored`: a refused form gives the low record
+pub low-written : (s o : List ℕ) (n : ℕ) (r : Record) → storedLength current ≤ length o → stored.readOf s ≡ (K n, r) → storedBytes s o ≡ (200 + n, over (storedForm lowRecord) o)
+unfolding storedBytes
+low-written s o n r l e =
+    simp (le-leb _ _ l) (ap (λ (p : stored.Outcome × Record). (storedAnswer (p .0), over (storedForm (p .1)) o)) e
+    ∙ ap (λ (x : Record). (200 + n, over (storedForm x) o)) (read-refusal s n r e .1))
+
+-- ---- `khuyapesh_build` and `khuyapesh_read`
+
+-- H1 to H3, or a frame
+abbrev BuiltSo : List ℕ → Answer × List ℕ → Type 0
+BuiltSo o (H n, b) = Within 1 3 n × (b ≡ o)
+BuiltSo o (S n, b) = ⊥
+BuiltSo o (accepted n, b) = Unit {0}
+BuiltSo o (unit a n, b) = ⊥
+
+built-known : (k : Kind) (t o : List ℕ) → BuiltSo o (frame.buildOf k t o)
+unfolding frame.buildOf
+built-known k t o = go (leb 64 (length o)) (between 4 60 (length t)) (allText t)
+  where
+    go : (a b c : Bool) → BuiltSo o (unless a (H 1, o) (unless b (H 2, o) (unless c (H 3, o) (accepted (length (frameOf k t)), over (frameOf k t) o))))
+    go false b c = (omega arith, refl)
+    go true false c = (omega arith, refl)
+    go true true false = (omega arith, refl)
+    go true true true = tt
+
+-- H1, S3 to S6, or a text
+abbrev TextSo : List ℕ → Answer × List ℕ → Type 0
+TextSo o (H n, b) = (n ≡ 1) × (b ≡ o)
+TextSo o (S n, b) = Within 3 6 n × (b ≡ o)
+TextSo o (accepted n, b) = Unit {0}
+TextSo o (unit a n, b) = ⊥
+
+abbrev located : (n : ℕ) (b c d e : Bool) → Answer
+located n b c d e = unless b (S 3) (unless c (S 4) (unless d (S 5) (unless e (S 6) (accepted n))))
+
+text-known : (k : Kind) (f o : List ℕ) → TextSo o (frame.readOf k f o)
+unfolding frame.readOf frame.locateOf
+text-known k f o = go (leb 64 (length o)) (withinLimits k (length f)) (marksRight k f) (checkRight k f) (allText (textIn k f))
+  where
+    go : (a b c d e : Bool)
+        → TextSo o (unless a (H 1, o) (located (length (textIn k f)) b c d e, frame.copied (located (length (textIn k f)) b c d e) (textIn k f) o))
+    go false b c d e = (refl, refl)
+    go true false c d e = (omega arith, refl)
+    go true true false d e = (omega arith, refl)
+    go true true true false e = (omega arith, refl)
+    go true true true true false = (omega arith, refl)
+    go true true true true true = tt
+
+module _ (kind : ℕ) (t o : List ℕ) where
+  build-cases : (P : ℕ × List ℕ → Type 0) → P (noSuch, o) → ((n : ℕ) → Within 1 3 n → P (400 + n, o))
+      → ((n : ℕ) (b : List ℕ) → kind ≤ 1 → frame.buildOf (kindOf kind) t o ≡ (accepted n, b) → Within 7 64 n → P (n, b)) → P (buildBytes kind t o)
+  unfolding buildBytes
+  build-cases P none refused built = known (isKind kind) refl
+    where
+      sizes : (n : ℕ) (b : List ℕ) → frame.buildOf (kindOf kind) t o ≡ (accepted n, b) → Within 7 64 n
+      sizes n b e = let f = framed (kindOf kind) t o b n e in omega (arith, frame-length (kindOf kind) t, tail-low (kindOf kind), tail-high (kindOf kind), f .size, f .low, f .high)
+
+      go : (x : Answer × List ℕ) → kind ≤ 1 → frame.buildOf (kindOf kind) t o ≡ x → BuiltSo o x → P (hostLeft x)
+      go (H n, b) l e w = subst (λ (y : List ℕ). P (400 + n, y)) (sym (w .1)) (refused n (w .0))
+      go (S n, b) l e w = absurd w
+      go (accepted n, b) l e w = built n b l e (sizes n b e)
+      go (unit a n, b) l e w = absurd w
+
+      known : (c : Bool) → isKind kind ≡ c → P (unless c (noSuch, o) (hostLeft (frame.buildOf (kindOf kind) t o)))
+      known true e = go (frame.buildOf (kindOf kind) t o) (leb-true kind 1 e) refl (built-known (kindOf kind) t o)
+      known false e = none
+
+  -- "the frame's length; or 300, then 401 to 403"
+  pub build-numbers : Within 7 64 (buildBytes kind t o .0) ⊎ (Within 401 403 (buildBytes kind t o .0) ⊎ (buildBytes kind t o .0 ≡ 300))
+  build-numbers =
+      build-cases (λ (p : ℕ × List ℕ). Within 7 64 (p .0) ⊎ (Within 401 403 (p .0) ⊎ (p .0 ≡ 300))) (inr (inr refl)) (λ n w. inr (inl (omega arith))) (λ n b l e w. inl w)
+
+  pub build-keeps : 100 ≤ buildBytes kind t o .0 → buildBytes kind t o .1 ≡ o
+  build-keeps = build-cases (λ (p : ℕ × List ℕ). 100 ≤ p .0 → p .1 ≡ o) (λ h. refl) (λ n w h. refl) (λ n b l e w h. absurd (omega arith))
+
+  -- reading what was built gives the text
+  pub read-back : (o′ : List ℕ) → 64 ≤ length o′ → buildBytes kind t o .0 < 100
+      → readBytes kind (take (buildBytes kind t o .0) (buildBytes kind t o .1)) o′ ≡ (length t, over t o′)
+  unfolding readBytes
+  read-back o′ room =
+      build-cases (λ (p : ℕ × List ℕ). p .0 < 100 → readBytes kind (take (p .0) (p .1)) o′ ≡ (length t, over t o′)) (λ h. absurd (omega arith)) (λ n w h. absurd (omega arith))
+      (λ n b l e w h. simp (le-leb kind 1 l) (ap hostLeft (read-built (kindOf kind) t o o′ b n room e)))
+
+module _ (kind : ℕ) (f o : List ℕ) where
+  read-cases : (P : ℕ × List ℕ → Type 0) → P (noSuch, o) → P (401, o) → ((n : ℕ) → Within 3 6 n → P (silenceAnswer n, o))
+      → ((n : ℕ) (b : List ℕ) → Within 4 60 n → P (n, b)) → P (readBytes kind f o)
+  unfolding readBytes
+  read-cases P none refused silenced text =
+      either P (isKind kind) (noSuch, o) (hostLeft (frame.readOf (kindOf kind) f o)) none (go (frame.readOf (kindOf kind) f o) refl (text-known (kindOf kind) f o))
+    where
+      sizes : (n : ℕ) (b : List ℕ) → frame.readOf (kindOf kind) f o ≡ (accepted n, b) → Within 4 60 n
+      sizes n b e = let h = found-sizes (kindOf kind) f n (taken (kindOf kind) f o b n e .text) in (h .low, h .high)
+
+      go : (x : Answer × List ℕ) → frame.readOf (kindOf kind) f o ≡ x → TextSo o x → P (hostLeft x)
+      go (H n, b) e w = subst (λ (y : List ℕ). P (400 + n, y)) (sym (w .1)) (subst (λ (m : ℕ). P (400 + m, o)) (sym (w .0)) refused)
+      go (S n, b) e w = subst (λ (y : List ℕ). P (silenceAnswer n, y)) (sym (w .1)) (silenced n (w .0))
+      go (accepted n, b) e w = text n b (sizes n b e)
+      go (unit a n, b) e w = absurd w
+
+  -- "the text's length; or 300, then 401, then 103 to 106"
+  pub read-numbers : Within 4 60 (readBytes kind f o .0) ⊎ (Within 103 106 (readBytes kind f o .0) ⊎ ((readBytes kind f o .0 ≡ 401) ⊎ (readBytes kind f o .0 ≡ 300)))
+  read-numbers =
+      read-cases (λ (p : ℕ × List ℕ). Within 4 60 (p .0) ⊎ (Within 103 106 (p .0) ⊎ ((p .0 ≡ 401) ⊎ (p .0 ≡ 300)))) (inr (inr (inr refl))) (inr (inr (inl refl)))
+      (λ n w. inr (inl (omega arith))) (λ n b w. inl w)
+
+  pub read-keeps : 100 ≤ readBytes kind f o .0 → readBytes kind f o .1 ≡ o
+  read-keeps = read-cases (λ (p : ℕ × List ℕ). 100 ≤ p .0 → p .1 ≡ o) (λ h. refl) (λ h. refl) (λ n w h. refl) (λ n b w h. absurd (omega arith))

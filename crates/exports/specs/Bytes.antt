@@ -1,0 +1,105 @@
+-- include/khuyapesh.h: what each function answers and what every lent byte then is, by the definitions of document 01.
+-- s are the stored bytes, q the request, t a text, f a frame, and o the buffer that is written.
+use Prim.Native.Nat.{ℕ, _+_}
+use mathlib.Core.Bool.{Bool}
+use mathlib.Core.List.{List}
+use lib.Dec.{eqb, leb}
+use lib.ListN.{length}
+use Rattle.base.specs.Test.{pick, unless}
+use Rattle.base.specs.Lists.{over}
+use Rattle.state.specs.declared.Record.{Record}
+use Rattle.state.specs.declared.Event.{Event}
+use Rattle.state.specs.declared.Event.the-variants.{Pulses, Still, KeypadOn, KeypadOff, PowerBack}
+use Rattle.state.specs.Event.{after}
+use Rattle.stored.specs.Layout.{current}
+use Rattle.stored.specs.Form as stored
+use Rattle.stored.specs.Form.{K, done, storedLength, storedForm}
+use Rattle.frame.specs.declared.Kind.{Kind}
+use Rattle.frame.specs.declared.Kind.the-variants.{Minicomputer, Terminal}
+use Rattle.frame.specs.Answer as frame
+use Rattle.frame.specs.Numbers.{Answer, H, S, accepted, unit}
+use Rattle.controller.specs.Call.{Outcome, callOf}
+
+-- ---- the numbers
+
+-- "100 + n   silence Sn"
+abbrev pub silenceAnswer : ℕ → ℕ
+silenceAnswer n = 100 + n
+
+-- "200 + n   stored form refused, Kn"
+abbrev pub storedAnswer : stored.Outcome → ℕ
+storedAnswer (K n) = 200 + n
+storedAnswer done = 0
+
+-- "300       no such kind or event"
+abbrev pub noSuch : ℕ
+noSuch = 300
+
+-- "400 + n   host side refused, Hn"; or the length. Building and reading answer no address.
+abbrev pub hostAnswer : Answer → ℕ
+hostAnswer (H n) = 400 + n
+hostAnswer (S n) = silenceAnswer n
+hostAnswer (accepted n) = n
+hostAnswer (unit a n) = n
+
+-- "KHUYAPESH_MINICOMPUTER 0", "KHUYAPESH_TERMINAL 1"
+abbrev pub isKind : ℕ → Bool
+isKind n = leb n 1
+
+abbrev pub kindOf : ℕ → Kind
+kindOf n = pick (eqb n 0) Minicomputer Terminal
+
+-- "KHUYAPESH_PULSES 0", "KHUYAPESH_STILL 1", "KHUYAPESH_KEYPAD_ON 2", "KHUYAPESH_KEYPAD_OFF 3", "KHUYAPESH_POWER_BACK 4";
+-- "pulses is read by KHUYAPESH_PULSES alone"
+abbrev pub isEvent : ℕ → Bool
+isEvent n = leb n 4
+
+abbrev pub eventOf : ℕ → ℕ → Event
+eventOf n pulses = pick (eqb n 0) (Pulses pulses) (pick (eqb n 1) Still (pick (eqb n 2) KeypadOn (pick (eqb n 3) KeypadOff PowerBack)))
+
+-- ---- khuyapesh_call: the answer, the stored bytes and the reply buffer
+
+-- "the reply's length, with the reply at the start of the reply buffer, .., and the record after it in place of the stored
+-- record"; "a refusal or silence leaves every lent byte as it was"
+unfoldable pub callLeft : Outcome → List ℕ → List ℕ → ℕ × (List ℕ × List ℕ)
+callLeft c s o = pick (eqb (c .silence) 0) (c .reported, (storedForm (c .after), c .buffer)) (silenceAnswer (c .silence), (s, o))
+
+abbrev pub callRead : Kind → stored.Outcome × Record → List ℕ → List ℕ → List ℕ → ℕ × (List ℕ × List ℕ)
+callRead k (K n, r) s q o = (storedAnswer (K n), (s, o))
+callRead k (done, r) s q o = callLeft (callOf k r q o) s o
+
+-- "or 300, then 201 to 204, then 102 to 108"
+unfoldable pub callBytes : ℕ → List ℕ → List ℕ → List ℕ → ℕ × (List ℕ × List ℕ)
+callBytes kind s q o = unless (isKind kind) (noSuch, (s, o)) (callRead (kindOf kind) (stored.readOf s) s q o)
+
+-- ---- khuyapesh_panel: the answer and the stored bytes
+
+-- "0, with the record after it in place of the stored record"
+abbrev pub panelRead : Event → stored.Outcome × Record → List ℕ → ℕ × List ℕ
+panelRead e (K n, r) s = (storedAnswer (K n), s)
+panelRead e (done, r) s = (0, storedForm (after e r))
+
+-- "or 300, then 201 to 204"
+unfoldable pub panelBytes : ℕ → ℕ → List ℕ → ℕ × List ℕ
+panelBytes event pulses s = unless (isEvent event) (noSuch, s) (panelRead (eventOf event pulses) (stored.readOf s) s)
+
+-- ---- khuyapesh_stored: the answer and the buffer
+
+-- "writes the record that was read, in its stored form, to the start of out, the rest of which stays. Answers 0; or 201 to
+-- 204, and then the record written is the low one ..; or 206 if out is under KHUYAPESH_STORED_LENGTH bytes, with out untouched"
+unfoldable pub storedBytes : List ℕ → List ℕ → ℕ × List ℕ
+storedBytes s o =
+    unless (leb (storedLength current) (length o)) (storedAnswer (K 6), o)
+    (storedAnswer (stored.readOf s .0), over (storedForm (stored.readOf s .1)) o)
+
+-- ---- khuyapesh_build and khuyapesh_read: the answer and the buffer
+abbrev pub hostLeft : Answer × List ℕ → ℕ × List ℕ
+hostLeft (a, o) = (hostAnswer a, o)
+
+-- "the frame's length; or 300, then 401 to 403"
+unfoldable pub buildBytes : ℕ → List ℕ → List ℕ → ℕ × List ℕ
+buildBytes kind t o = unless (isKind kind) (noSuch, o) (hostLeft (frame.buildOf (kindOf kind) t o))
+
+-- "the text's length; or 300, then 401, then 103 to 106"
+unfoldable pub readBytes : ℕ → List ℕ → List ℕ → ℕ × List ℕ
+readBytes kind f o = unless (isKind kind) (noSuch, o) (hostLeft (frame.readOf (kindOf kind) f o))

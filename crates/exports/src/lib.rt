@@ -1,0 +1,239 @@
+// The functions of include/khuyapesh.h, for C and Rust: bytes and numbers in, bytes and numbers out.
+use controller::Answer;
+use frame::Built;
+use frame::Kind;
+use frame::Silence;
+use frame::TextRead;
+use state::Event;
+use state::Record;
+use stored::Refusal;
+use stored::STORED_LENGTH;
+ghost use mathlib.Core.Path.{_≡_};
+ghost use Prim.Native.Nat.{_≤_};
+ghost use Rattle.stored.specs.Form.{K, done, refusalNumber, answerAs};
+ghost use Rattle.stored.specs.Form as form;
+ghost use Rattle.frame.specs.Numbers.{silenceNumber, lengthIn, builtAs, readAs};
+ghost use Rattle.controller.specs.Call.{callOf};
+ghost use Rattle.exports.specs.Bytes.{silenceAnswer, storedAnswer, hostAnswer, kindOf, eventOf, callLeft, callBytes, panelBytes, storedBytes, buildBytes, readBytes};
+
+// ---- the numbers that are answered
+
+// Added to a silence's number.
+const SILENT: u32 = 100;
+
+// Added to the number of a refusal of stored bytes.
+const STORED: u32 = 200;
+
+// No such kind or event.
+const NO_SUCH: u32 = 300;
+
+// Added to the number of a refusal of the host side.
+const HOST: u32 = 400;
+
+// The highest numbers of a kind and of an event.
+const LAST_KIND: u8 = 1;
+
+const LAST_EVENT: u8 = 4;
+
+fn silence_number(why: Silence) -> u32
+    ensures { λ n. ⌜ (n ≡ silenceNumber why) × (n ≤ 8) ⌝ }
+{
+    match why {
+        Silence::InvalidRecord => 1,
+        Silence::ShortReplyBuffer => 2,
+        Silence::FrameLength => 3,
+        Silence::Mark => 4,
+        Silence::Check => 5,
+        Silence::TextByte => 6,
+        Silence::AddressOrCode => 7,
+        Silence::OtherAddress => 8,
+    }
+}
+
+fn silence_answer(why: Silence) -> u32
+    ensures { λ n. ⌜ n ≡ silenceAnswer (silenceNumber why) ⌝ }
+{
+    SILENT + silence_number(why)
+}
+
+fn refusal_number(why: Refusal) -> u32
+    ensures { λ n. ⌜ (n ≡ refusalNumber why) × (n ≤ 4) ⌝ }
+{
+    match why {
+        Refusal::Length => 1,
+        Refusal::Version => 2,
+        Refusal::LengthField => 3,
+        Refusal::Field => 4,
+    }
+}
+
+fn refusal_answer(why: Refusal) -> u32
+    ensures { λ n. ⌜ n ≡ storedAnswer (K (refusalNumber why)) ⌝ }
+{
+    STORED + refusal_number(why)
+}
+
+fn stored_answer(read: stored::Answer) -> u32
+    ensures { λ n. ⌜ n ≡ storedAnswer (answerAs read) ⌝ }
+{
+    match read {
+        stored::Answer::Whole => 0,
+        stored::Answer::Refused(why) => refusal_answer(why),
+    }
+}
+
+fn built_answer(built: Built) -> u32
+    requires { ⌜ lengthIn (builtAs built) ≤ 64 ⌝ }
+    ensures { λ n. ⌜ n ≡ hostAnswer (builtAs built) ⌝ }
+{
+    match built {
+        Built::ShortBuffer => HOST + 1,
+        Built::TextLength => HOST + 2,
+        Built::TextByte => HOST + 3,
+        Built::Frame(n) => n as u32,
+    }
+}
+
+fn text_answer(read: TextRead) -> u32
+    requires { ⌜ lengthIn (readAs read) ≤ 64 ⌝ }
+    ensures { λ n. ⌜ n ≡ hostAnswer (readAs read) ⌝ }
+{
+    match read {
+        TextRead::ShortBuffer => HOST + 1,
+        TextRead::Silent(why) => silence_answer(why),
+        TextRead::Text(n) => n as u32,
+    }
+}
+
+// ---- the numbers that are taken
+
+fn kind_of(kind: u8) -> Kind
+    ensures { λ k. ⌜ k ≡ kindOf kind ⌝ }
+{
+    if kind == 0 {
+        return Kind::Minicomputer;
+    }
+    Kind::Terminal
+}
+
+fn event_of(event: u8, pulses: u16) -> Event
+    ensures { λ e. ⌜ e ≡ eventOf event pulses ⌝ }
+{
+    match event {
+        0 => Event::Pulses(pulses),
+        1 => Event::Still,
+        2 => Event::KeypadOn,
+        3 => Event::KeypadOff,
+        _ => Event::PowerBack,
+    }
+}
+
+// ---- the controller
+
+// One call on the record that the stored bytes are.
+fn call_record(
+    kind: Kind,
+    before: Record,
+    stored: &mut [u8],
+    request: &[u8],
+    reply: &mut [u8],
+) -> u32
+    requires { ⌜ form.readOf (now stored) ≡ (done, before) ⌝ }
+    ensures { λ n. ⌜ (n, (now (stored .exit), now (reply .exit))) ≡ callLeft (callOf kind before (now (request .entry)) (now (reply .entry))) (now (stored .entry)) (now (reply .entry)) ⌝ }
+{
+    let called = controller::call(kind, before, request, reply);
+    let answer = called.answer;
+    let after = called.after;
+    match answer {
+        Answer::Silent(why) => silence_answer(why),
+        Answer::Reply(n) => {
+            stored::write(after, stored);
+            n as u32
+        }
+    }
+}
+
+// One call of the controller.
+#[no_mangle]
+pub extern "C" fn khuyapesh_call(
+    kind: u8,
+    stored: &mut [u8],
+    request: &[u8],
+    reply: &mut [u8],
+) -> u32
+    ensures { λ n. ⌜ (n, (now (stored .exit), now (reply .exit))) ≡ callBytes kind (now (stored .entry)) (now (request .entry)) (now (reply .entry)) ⌝ }
+{
+    if LAST_KIND < kind {
+        return NO_SUCH;
+    }
+    let reading = stored::read(stored);
+    let answer = reading.answer;
+    let before = reading.record;
+    match answer {
+        stored::Answer::Whole => call_record(kind_of(kind), before, stored, request, reply),
+        stored::Answer::Refused(why) => refusal_answer(why),
+    }
+}
+
+// ---- the panel
+
+// One event of the panel.
+#[no_mangle]
+pub extern "C" fn khuyapesh_panel(event: u8, pulses: u16, stored: &mut [u8]) -> u32
+    ensures { λ n. ⌜ (n, now (stored .exit)) ≡ panelBytes event pulses (now (stored .entry)) ⌝ }
+{
+    if LAST_EVENT < event {
+        return NO_SUCH;
+    }
+    let reading = stored::read(stored);
+    let answer = reading.answer;
+    let before = reading.record;
+    match answer {
+        stored::Answer::Whole => {
+            stored::write(before.after(event_of(event, pulses)), stored);
+            0
+        }
+        stored::Answer::Refused(why) => refusal_answer(why),
+    }
+}
+
+// ---- the stored form
+
+// Reads a stored record and writes what was read; the low record beside a refusal.
+#[no_mangle]
+pub extern "C" fn khuyapesh_stored(stored: &[u8], out: &mut [u8]) -> u32
+    ensures { λ n. ⌜ (n, now (out .exit)) ≡ storedBytes (now (stored .entry)) (now (out .entry)) ⌝ }
+{
+    if out.len() < STORED_LENGTH {
+        return STORED + 6;
+    }
+    let reading = stored::read(stored);
+    let answer = reading.answer;
+    let read = reading.record;
+    stored::write(read, out);
+    stored_answer(answer)
+}
+
+// ---- the host side
+
+// Builds the frame of a text.
+#[no_mangle]
+pub extern "C" fn khuyapesh_build(kind: u8, text: &[u8], out: &mut [u8]) -> u32
+    ensures { λ n. ⌜ (n, now (out .exit)) ≡ buildBytes kind (now (text .entry)) (now (out .entry)) ⌝ }
+{
+    if LAST_KIND < kind {
+        return NO_SUCH;
+    }
+    built_answer(frame::build(kind_of(kind), text, out))
+}
+
+// Copies a frame's text.
+#[no_mangle]
+pub extern "C" fn khuyapesh_read(kind: u8, frame: &[u8], out: &mut [u8]) -> u32
+    ensures { λ n. ⌜ (n, now (out .exit)) ≡ readBytes kind (now (frame .entry)) (now (out .entry)) ⌝ }
+{
+    if LAST_KIND < kind {
+        return NO_SUCH;
+    }
+    text_answer(frame::read(kind_of(kind), frame, out))
+}

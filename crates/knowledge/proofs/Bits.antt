@@ -1,0 +1,72 @@
+-- Masks, digit by digit: the bits of what two masks share, of the numbers that pass a test, and of a mask that is not empty. Assumes
+-- nothing.
+use Prim.Native.Nat.{ℕ, zero, suc, _+_, _*_, _/_, _%_, _≤_, _<_, min}
+use mathlib.Core.Bool.{Bool, true, false, _&&_}
+use mathlib.Core.Path.{_≡_, refl, ap, _∙_}
+use native.Mathlib.Omega.{arith}
+use lib.Dec.{eqb}
+use lib.Bits.{bitAnd, and-step}
+use borrow.Author.Tests.{eq-eqb, ne-eqb}
+use Rattle.state.specs.Field.{flagNumber}
+use Rattle.knowledge.specs.Sets.{bit, maskFrom}
+
+-- ---- what two masks share
+digit-and : (x y : ℕ) → x < 2 → y < 2 → eqb (min x y) 1 ≡ (eqb x 1 && eqb y 1)
+digit-and zero zero h k = refl
+digit-and zero (suc zero) h k = refl
+digit-and zero (suc (suc y)) h k = absurd (omega arith)
+digit-and (suc zero) zero h k = refl
+digit-and (suc zero) (suc zero) h k = refl
+digit-and (suc zero) (suc (suc y)) h k = absurd (omega arith)
+digit-and (suc (suc x)) y h k = absurd (omega arith)
+
+pub bit-and : (n a b : ℕ) → bit (bitAnd a b) n ≡ (bit a n && bit b n)
+unfolding bit
+bit-and zero a b =
+    let e : bitAnd a b % 2 ≡ min (a % 2) (b % 2) = omega (arith, and-step a b) in
+    rw e (digit-and (a % 2) (b % 2) (omega arith) (omega arith))
+bit-and (suc n) a b =
+    let e : bitAnd a b / 2 ≡ bitAnd (a / 2) (b / 2) = omega (arith, and-step a b) in
+    rw e (bit-and n (a / 2) (b / 2))
+
+-- ---- the empty mask, and any other
+pub bit-zero : (n : ℕ) → bit 0 n ≡ false
+unfolding bit
+bit-zero zero = refl
+bit-zero (suc n) = bit-zero n
+
+some-bit-below : (n m : ℕ) → m ≤ n → (m ≡ 0 → ⊥) → (i : ℕ) × (bit m i ≡ true)
+unfolding bit
+some-bit-below zero m h z = absurd (z (omega arith))
+some-bit-below (suc n) m h z = go (some-bit-below n (m / 2) (omega arith)) (m % 2) refl (omega arith)
+  where
+    go : ((m / 2 ≡ 0 → ⊥) → (i : ℕ) × (bit (m / 2) i ≡ true)) → (d : ℕ) → m % 2 ≡ d → d < 2 → (i : ℕ) × (bit m i ≡ true)
+    go f zero e l = let t = f (λ q. z (omega arith)) in (suc (t .0), t .1)
+    go f (suc zero) e l = (0, eq-eqb (m % 2) 1 e)
+    go f (suc (suc d)) e l = absurd (omega arith)
+
+pub some-bit : (m : ℕ) → (m ≡ 0 → ⊥) → (i : ℕ) × (bit m i ≡ true)
+some-bit m z = some-bit-below m m (omega arith) z
+
+-- ---- the numbers that pass a test
+digit-low : (b : Bool) (x : ℕ) → eqb ((flagNumber b + 2 * x) % 2) 1 ≡ b
+digit-low true x = eq-eqb ((1 + 2 * x) % 2) 1 (omega arith)
+digit-low false x = ne-eqb ((0 + 2 * x) % 2) 1 (λ e. omega arith)
+
+digits-high : (b : Bool) (x : ℕ) → (flagNumber b + 2 * x) / 2 ≡ x
+digits-high true x = omega arith
+digits-high false x = omega arith
+
+module _ (p : ℕ → Bool) where
+  pub bit-mask : (m i n : ℕ) → n < m → bit (maskFrom p m i) n ≡ p (i + n)
+  unfolding bit maskFrom
+  bit-mask zero i n h = absurd (omega arith)
+  bit-mask (suc m) i zero h = digit-low (p i) (maskFrom p m (i + 1)) ∙ ap p (omega arith)
+  bit-mask (suc m) i (suc n) h =
+      ap (λ (x : ℕ). bit x n) (digits-high (p i) (maskFrom p m (i + 1))) ∙ (bit-mask m (i + 1) n (omega arith) ∙ ap p (omega arith))
+
+  pub bit-beyond : (m i n : ℕ) → m ≤ n → bit (maskFrom p m i) n ≡ false
+  unfolding bit maskFrom
+  bit-beyond zero i n h = bit-zero n
+  bit-beyond (suc m) i zero h = absurd (omega arith)
+  bit-beyond (suc m) i (suc n) h = ap (λ (x : ℕ). bit x n) (digits-high (p i) (maskFrom p m (i + 1))) ∙ bit-beyond m (i + 1) n (omega arith)

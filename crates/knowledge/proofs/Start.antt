@@ -1,0 +1,184 @@
+-- At the start exactly the valid records with the address and the access are possible; what is kept gives the address and the access of
+-- each possible record, and, while alive, a possible record. The start's codes are read by the fields' positions. Assumes nothing.
+use Prim.Native.Nat.{ℕ, zero, suc, _+_, _-_, _*_, _≤_, _<_}
+use mathlib.Core.Bool.{Bool, true, false}
+use mathlib.Core.Path.{_≡_, refl, sym, ap, _∙_}
+use mathlib.Core.List.{List, [], _∷_, map}
+use mathlib.Core.Logic.{⊎-elim}
+use native.Mathlib.Nat.{not-suc-le-zero, le-of-suc-le-suc}
+use native.Mathlib.Omega.{arith}
+use lib.Dec.{eqb, ltb}
+use lib.ListN.{length, getD, length-append, List·getD-append}
+use lib.Seq.{getD-append-add}
+use borrow.Author.Tests.{eqb-true, ltb-true, ltb-false}
+use Rattle.base.proofs.Tests.{holds-below, below-or-not}
+use Rattle.state.specs.declared.Record.{Record}
+use Rattle.state.specs.Parameter.{parameterCount, rangeAt}
+use Rattle.state.specs.Field.{Field, address, access, phase, keypad, flow, changed, reset, powerfail, recipe, preset, raw, number, value, level, get, position, fieldRange, fieldsFor, parameterFields}
+use Rattle.state.specs.Valid.{within, valid}
+use Rattle.state.proofs.Fields.{Held, same-field}
+use Rattle.state.proofs.Kept.{field-in}
+use Rattle.state.proofs.Whole.{recordFrom, get-from, from-valid}
+use Rattle.knowledge.specs.declared.Knowledge.{Knowledge}
+use Rattle.knowledge.specs.Sets.{single, kindOf, only, has, any}
+use Rattle.knowledge.specs.Knowledge.{codeAt, start, startCode}
+use Rattle.knowledge.proofs.Possible.{Possible, Kept}
+use Rattle.knowledge.proofs.Codes.{has-within, has-only, only-has, only-self, only-same, never-any, any-has}
+
+-- ---- the address and the access that are kept
+own-number : (k : Knowledge) (r : Record) (f : Field) (n : ℕ) → kindOf f ≡ single → Held f → codeAt (position f) k ≡ n → within (fieldRange f) n ≡ true
+    → Possible k r → get f r ≡ n
+own-number k r f n kind held e w t =
+    only-same n (get f r) (never-any f n held w) (has-only f n (get f r) kind (ap (λ (c : ℕ). has f c (get f r)) (sym e) ∙ t .each f held))
+
+module _ {a c : ℕ} (k : Knowledge) (r : Record) (kept : Kept a c k) where
+  pub own-address : within (fieldRange address) a ≡ true → Possible k r → get address r ≡ a
+  own-address w t = own-number k r address a refl (omega arith) (kept .own-address) w t
+
+  pub own-access : within (fieldRange access) c ≡ true → Possible k r → get access r ≡ c
+  own-access w t = own-number k r access c refl (omega arith) (kept .own-access) w t
+
+-- ---- while alive there is a possible record: each field holds a number of its set
+pub some-record : {a c : ℕ} (k : Knowledge) → Kept a c k → k .alive ≡ true → (r : Record) × Possible k r
+some-record k kept alive = (
+  recordFrom number-of,
+  record {
+    living = alive;
+    sound = from-valid number-of inside;
+    each = λ f h. ap (has f (codeAt (position f) k)) (get-from number-of inside f h) ∙ found f .1 h;
+  },
+)
+  where
+    found : (f : Field) → (n : ℕ) × (Held f → has f (codeAt (position f) k) n ≡ true)
+    found f = go (ltb (position f) (position (value parameterCount))) refl
+      where
+        go : (b : Bool) → ltb (position f) (position (value parameterCount)) ≡ b → (n : ℕ) × (Held f → has f (codeAt (position f) k) n ≡ true)
+        go true e = let s = kept .some alive f (ltb-true _ _ e) in (s .0, λ h. s .1)
+        go false e = (0, λ h. let l = ltb-false (position f) (position (value parameterCount)) e in absurd (omega arith))
+
+    number-of : Field → ℕ
+    number-of f = found f .0
+
+    inside : (f : Field) → Held f → within (fieldRange f) (number-of f) ≡ true
+    inside f h = has-within f (codeAt (position f) k) (number-of f) (found f .1 h)
+
+-- ---- the start's codes
+
+-- an element of a mapped list, whatever stands for a missing one
+mapped-at : {A B : Type 0} (g : A → B) (l : List A) (i : ℕ) (d : A) (e : B) → i < length l → getD (map g l) i e ≡ g (getD l i d)
+mapped-at g [] i d e h = absurd (not-suc-le-zero h)
+mapped-at g (x ∷ xs) zero d e h = refl
+mapped-at g (x ∷ xs) (suc i) d e h = mapped-at g xs i d e (le-of-suc-le-suc h)
+
+parameters-length : (n : ℕ) → length (parameterFields n) ≡ 2 * n
+parameters-length zero = refl
+parameters-length (suc n) = let h = parameters-length n in length-append (parameterFields n) (value n ∷ level n ∷ []) ∙ omega arith
+
+-- each field of the list stands at its position
+pair-at : (n j : ℕ) → j < 2 → position (getD (value n ∷ level n ∷ []) j address) ≡ 12 + 2 * n + j
+pair-at n zero h = omega arith
+pair-at n (suc zero) h = omega arith
+pair-at n (suc (suc j)) h = absurd (omega arith)
+
+parameters-at : (n j : ℕ) → j < 2 * n → position (getD (parameterFields n) j address) ≡ 12 + j
+parameters-at zero j h = absurd (omega arith)
+parameters-at (suc n) j h =
+    let l = parameters-length n in
+    ⊎-elim (λ (q : j < 2 * n). ap position (List·getD-append (parameterFields n) (value n ∷ level n ∷ []) address j (omega arith)) ∙ parameters-at n j q)
+    (λ (q : 2 * n ≤ j).
+    let e : j ≡ length (parameterFields n) + (j - 2 * n) = omega arith in
+    let t = pair-at n (j - 2 * n) (omega arith) in
+    ap (λ (i : ℕ). position (getD (parameterFields (suc n)) i address)) e
+    ∙ (ap position (getD-append-add (parameterFields n) (value n ∷ level n ∷ []) (j - 2 * n) address) ∙ omega arith))
+    (below-or-not j (2 * n))
+
+fields-at : (n i : ℕ) → i < 12 + 2 * n → position (getD (fieldsFor n) i address) ≡ i
+fields-at n i h =
+    ⊎-elim (λ (q : i < 12).
+    ap position (List·getD-append (fieldsFor 0) (parameterFields n) address i q)
+    ∙ eqb-true _ _ (holds-below (λ (j : ℕ). eqb (position (getD (fieldsFor 0) j address)) j) 12 refl i q))
+    (λ (q : 12 ≤ i).
+    let e : i ≡ 12 + (i - 12) = omega arith in
+    let t = parameters-at n (i - 12) (omega arith) in
+    ap (λ (j : ℕ). position (getD (fieldsFor n) j address)) e
+    ∙ (ap position (getD-append-add (fieldsFor 0) (parameterFields n) (i - 12) address) ∙ omega arith))
+    (below-or-not i 12)
+
+start-code : (a c : ℕ) (f : Field) → Held f → codeAt (position f) (start a c) ≡ startCode a c f
+unfolding codeAt start
+start-code a c f h =
+    mapped-at (startCode a c) (fieldsFor parameterCount) (position f) address 0 h
+    ∙ ap (startCode a c) (same-field (getD (fieldsFor parameterCount) (position f) address) f (fields-at parameterCount (position f) h))
+
+-- the address, the access, and any other
+each-start : (a c : ℕ) (P : Field → ℕ → Type 0) → P address a → P access c → ((f : Field) → P f (any f)) → (f : Field) → P f (startCode a c f)
+each-start a c P x y z address = x
+each-start a c P x y z access = y
+each-start a c P x y z phase = z phase
+each-start a c P x y z keypad = z keypad
+each-start a c P x y z flow = z flow
+each-start a c P x y z changed = z changed
+each-start a c P x y z reset = z reset
+each-start a c P x y z powerfail = z powerfail
+each-start a c P x y z recipe = z recipe
+each-start a c P x y z preset = z preset
+each-start a c P x y z raw = z raw
+each-start a c P x y z number = z number
+each-start a c P x y z (value i) = z (value i)
+each-start a c P x y z (level i) = z (level i)
+
+-- the low end of a range is in it
+value-low : (i : ℕ) → i < parameterCount → within (rangeAt i) (rangeAt i .low) ≡ true
+unfolding rangeAt
+value-low i h = holds-below (λ (j : ℕ). within (rangeAt j) (rangeAt j .low)) parameterCount refl i h
+
+low-in : (f : Field) → Held f → within (fieldRange f) (fieldRange f .low) ≡ true
+low-in address h = refl
+low-in access h = refl
+low-in phase h = refl
+low-in keypad h = refl
+low-in flow h = refl
+low-in changed h = refl
+low-in reset h = refl
+low-in powerfail h = refl
+low-in recipe h = refl
+low-in preset h = refl
+low-in raw h = refl
+low-in number h = refl
+low-in (value i) h = value-low i (omega arith)
+low-in (level i) h = refl
+
+-- ---- the records of the start
+module _ (a c : ℕ) where
+  pub start-possible : (r : Record) → valid r ≡ true → get address r ≡ a → get access r ≡ c → Possible (start a c) r
+  unfolding start
+  start-possible r v p q =
+      record {
+        living = refl;
+        sound = v;
+        each =
+            λ f h.
+            ap (λ (d : ℕ). has f d (get f r)) (start-code a c f h)
+            ∙ each-start a c (λ g d. Held g → has g d (get g r) ≡ true)
+            (λ l. only-has address a (get address r) refl (field-in r v address l) (ap (only a) p ∙ only-self a))
+            (λ l. only-has access c (get access r) refl (field-in r v access l) (ap (only c) q ∙ only-self c))
+            (λ g l. any-has g (get g r) (field-in r v g l)) f h;
+      }
+
+  pub start-kept : within (fieldRange address) a ≡ true → within (fieldRange access) c ≡ true → Kept a c (start a c)
+  unfolding start
+  start-kept p q =
+      record {
+        full = refl;
+        own-address = start-code a c address (omega arith);
+        own-access = start-code a c access (omega arith);
+        some =
+            λ alive f h.
+            let s = each-start a c (λ g d. Held g → (n : ℕ) × (has g d n ≡ true)) (λ l. (a, only-has address a a refl p (only-self a)))
+            (λ l. (c, only-has access c c refl q (only-self c))) (λ g l. (fieldRange g .low, any-has g (fieldRange g .low) (low-in g l))) f h in
+            (s .0, ap (λ (d : ℕ). has f d (s .0)) (start-code a c f h) ∙ s .1);
+      }
+
+  pub start-told : (r : Record) → within (fieldRange address) a ≡ true → within (fieldRange access) c ≡ true → Possible (start a c) r
+      → (valid r ≡ true) × (get address r ≡ a) × (get access r ≡ c)
+  start-told r p q t = (t .sound, own-address (start a c) r (start-kept p q) p t, own-access (start a c) r (start-kept p q) q t)

@@ -1,0 +1,71 @@
+-- What is known of a record: for each field the code of a set, at the field's position. Dead: no record is possible.
+use Prim.Native.Nat.{ℕ}
+use mathlib.Core.Bool.{Bool, true, false, _&&_}
+use mathlib.Core.Path.{_≡_}
+use mathlib.Core.List.{List, map}
+use lib.Dec.{eqb}
+use lib.ListN.{getD, set}
+use lib.Bits.{bitAnd}
+use Rattle.base.specs.Test.{pick}
+use Rattle.state.specs.declared.Record.{Record}
+use Rattle.state.specs.declared.Range.{Range}
+use Rattle.state.specs.Parameter.{parameterCount}
+use Rattle.state.specs.Field.{Field, address, access, phase, keypad, flow, changed, reset, powerfail, recipe, preset, raw, number, value, level, get, position, fieldRange, fieldsFor}
+use Rattle.state.specs.Valid.{within}
+use Rattle.state.specs.Event.{nextNumber}
+use Rattle.knowledge.specs.declared.Knowledge.{Knowledge}
+use Rattle.knowledge.specs.Sets.{any, alone, maskIn, only, anyNumber, Kind, several, single, kindOf}
+
+-- the code at a position, 0 beyond the last
+unfoldable pub codeAt : ℕ → Knowledge → ℕ
+codeAt p k = getD (k .codes) p 0
+
+-- no record is possible
+abbrev pub dead : Knowledge → Knowledge
+dead k = record { alive = false; codes = k .codes }
+
+-- another code at a position
+abbrev pub recoded : ℕ → ℕ → Knowledge → Knowledge
+recoded p c k = record { alive = k .alive; codes = set (k .codes) p c }
+
+-- ---- cuts: what is left of a set
+unfoldable pub narrowed : ℕ → ℕ → Knowledge → Knowledge
+narrowed p m k = pick (eqb (bitAnd (codeAt p k) m) 0) (dead k) (recoded p (bitAnd (codeAt p k) m) k)
+
+unfoldable pub told : ℕ → Range → ℕ → Knowledge → Knowledge
+told p range n k = pick (within range n && only (codeAt p k) n) (recoded p n k) (dead k)
+
+-- the field passes a test (several), the field holds n (single)
+abbrev pub passing : Field → (ℕ → Bool) → Knowledge → Knowledge
+passing f p k = narrowed (position f) (maskIn f p) k
+
+abbrev pub holding : Field → ℕ → Knowledge → Knowledge
+holding f n k = told (position f) (fieldRange f) n k
+
+-- ---- moves: what a set becomes
+unfoldable pub becoming : Field → ℕ → Knowledge → Knowledge
+becoming f n k = recoded (position f) (alone f n) k
+
+-- the batch number goes on by one
+unfoldable pub advanced : Knowledge → Knowledge
+advanced k = recoded (position number) (pick (eqb (codeAt (position number) k) anyNumber) anyNumber (nextNumber (codeAt (position number) k))) k
+
+-- ---- at the start the address and the access are known, and nothing else
+abbrev pub startCode : ℕ → ℕ → Field → ℕ
+startCode a c address = a
+startCode a c access = c
+startCode a c phase = any phase
+startCode a c keypad = any keypad
+startCode a c flow = any flow
+startCode a c changed = any changed
+startCode a c reset = any reset
+startCode a c powerfail = any powerfail
+startCode a c recipe = any recipe
+startCode a c preset = any preset
+startCode a c raw = any raw
+startCode a c number = any number
+startCode a c (value i) = any (value i)
+startCode a c (level i) = any (level i)
+
+unfoldable pub start : ℕ → ℕ → Knowledge
+start a c = record { alive = true; codes = map (startCode a c) (fieldsFor parameterCount) }
