@@ -90,6 +90,23 @@ pub enum Refusal {
     UnknownRecipe,
 }
 
+// The number that goes out with a refusal.
+pub fn number_of(refusal: Refusal) -> u32
+    ensures { λ n. ⌜ n ≡ refusalNumber refusal ⌝ }
+{
+    match refusal {
+        Refusal::UnknownCode => 0,
+        Refusal::Malformed => 1,
+        Refusal::Keypad => 2,
+        Refusal::UnknownParameter => 4,
+        Refusal::Phase => 5,
+        Refusal::Range => 6,
+        Refusal::Level => 7,
+        Refusal::NotServed => 8,
+        Refusal::UnknownRecipe => 30,
+    }
+}
+
 pub enum Decision {
     Accepted,
     Refused(Refusal),

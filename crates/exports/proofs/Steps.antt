@@ -1,5 +1,5 @@
 -- What the code's returns give is what the definitions of specs/ say: one law for each return. Assumes nothing.
-use Prim.Native.Nat.{ℕ, _^_, _≤_, _<_}
+use Prim.Native.Nat.{ℕ, _+_, _^_, _≤_, _<_}
 use mathlib.Core.Bool.{true}
 use mathlib.Core.Path.{_≡_, refl, sym, ap, subst, _∙_}
 use mathlib.Core.List.{List, _++_, append-nil}
@@ -38,7 +38,13 @@ use Rattle.controller.specs.declared.Answer as controller
 use Rattle.controller.specs.declared.Answer.the-variants.{Silent, Reply}
 use Rattle.controller.specs.Call.{Outcome, outcomeAs, callOf}
 use Rattle.controller.proofs.Theorems.{Silenced, Answered, every-input, call-keeps-valid}
-use Rattle.exports.specs.Bytes.{silenceAnswer, storedAnswer, noSuch, hostAnswer, hostLeft, kindOf, eventOf, callLeft, callRead, callBytes, panelRead, panelBytes, storedBytes, buildBytes, readBytes}
+use Rattle.recording.specs.declared.Refusal as recording
+use Rattle.recording.specs.Form as form
+use Rattle.recording.specs.Statement as statement
+use Rattle.judging.specs.declared.Judgement.{Judgement}
+use Rattle.judging.specs.declared.Judgement.the-variants as judgement
+use Rattle.judging.specs.Judge.{judgementAs}
+use Rattle.exports.specs.Bytes.{silenceAnswer, storedAnswer, noSuch, hostAnswer, hostLeft, kindOf, eventOf, callLeft, callRead, callBytes, panelRead, panelBytes, storedBytes, buildBytes, readBytes, judgeNumbers}
 
 -- ---- kinds
 pub kind-minicomputer : (n : ℕ) → n ≡ 0 → Minicomputer ≡ kindOf n
@@ -222,3 +228,20 @@ module _ (n : ℕ) (s q o : List ℕ) where
     call-answered k x d b h i f = f ∙ (ap (λ (y : Kind). callLeft (callOf y r q o) s o) i ∙ called-so (done, r) (read-whole s a r e h))
 
 pub ruleset serving = (call-none, call-refused, call-answered)
+
+-- ---- judging
+module _ (j : Judgement) (a : statement.Judgement) (e : judgementAs j ≡ a) where
+  pub judged-fits : (n : ℕ) → j ≡ judgement.Fits n → (0, (0, n)) ≡ judgeNumbers a
+  unfolding judgeNumbers
+  judged-fits n h = ap (λ (x : Judgement). judgeNumbers (judgementAs x)) (sym h) ∙ ap judgeNumbers e
+
+  pub judged-refuted : (i n : ℕ) → j ≡ judgement.Refuted i n → (1, (i, n)) ≡ judgeNumbers a
+  unfolding judgeNumbers
+  judged-refuted i n h = ap (λ (x : Judgement). judgeNumbers (judgementAs x)) (sym h) ∙ ap judgeNumbers e
+
+  pub judged-refused : (k : recording.Refusal) (m w : ℕ) → j ≡ judgement.Refused k → m ≡ form.refusalNumber k → w ≡ m → (500 + w, (0, 0)) ≡ judgeNumbers a
+  unfolding judgeNumbers
+  judged-refused k m w h f g =
+      ap (λ (x : ℕ). (500 + x, (0, 0))) (g ∙ f) ∙ ap (λ (x : Judgement). judgeNumbers (judgementAs x)) (sym h) ∙ ap judgeNumbers e
+
+pub ruleset judging = (judged-fits, judged-refuted, judged-refused)

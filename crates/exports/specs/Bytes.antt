@@ -19,6 +19,8 @@ use Rattle.frame.specs.declared.Kind.the-variants.{Minicomputer, Terminal}
 use Rattle.frame.specs.Answer as frame
 use Rattle.frame.specs.Numbers.{Answer, H, S, accepted, unit}
 use Rattle.controller.specs.Call.{Outcome, callOf}
+use Rattle.recording.specs.Replay.{fits, refuted}
+use Rattle.recording.specs.Statement.{Judgement, judged, refused}
 
 -- ---- the numbers
 
@@ -103,3 +105,11 @@ buildBytes kind t o = unless (isKind kind) (noSuch, o) (hostLeft (frame.buildOf 
 -- "the text's length; or 300, then 401, then 103 to 106"
 unfoldable pub readBytes : ℕ → List ℕ → List ℕ → ℕ × List ℕ
 readBytes kind f o = unless (isKind kind) (noSuch, o) (hostLeft (frame.readOf (kindOf kind) f o))
+
+-- ---- khuyapesh_judge: the answer, the place and the count
+-- "0 for `fits N`, with 0 in *place and N in *count; 1 for `refuted at I of N`, with I in *place and N in *count; 500 + n for
+-- `refused Jn`, with 0 in both"
+unfoldable pub judgeNumbers : Judgement → ℕ × (ℕ × ℕ)
+judgeNumbers (judged (fits n)) = (0, (0, n))
+judgeNumbers (judged (refuted i n)) = (1, (i, n))
+judgeNumbers (refused n) = (500 + n, (0, 0))

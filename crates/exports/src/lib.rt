@@ -4,6 +4,7 @@ use frame::Built;
 use frame::Kind;
 use frame::Silence;
 use frame::TextRead;
+use judging::Judgement;
 use state::Event;
 use state::Record;
 use stored::Refusal;
@@ -14,7 +15,8 @@ ghost use Rattle.stored.specs.Form.{K, done, refusalNumber, answerAs};
 ghost use Rattle.stored.specs.Form as form;
 ghost use Rattle.frame.specs.Numbers.{silenceNumber, lengthIn, builtAs, readAs};
 ghost use Rattle.controller.specs.Call.{callOf};
-ghost use Rattle.exports.specs.Bytes.{silenceAnswer, storedAnswer, hostAnswer, kindOf, eventOf, callLeft, callBytes, panelBytes, storedBytes, buildBytes, readBytes};
+ghost use Rattle.judging.specs.Judge.{judgementOf};
+ghost use Rattle.exports.specs.Bytes.{silenceAnswer, storedAnswer, hostAnswer, kindOf, eventOf, callLeft, callBytes, panelBytes, storedBytes, buildBytes, readBytes, judgeNumbers};
 
 // ---- the numbers that are answered
 
@@ -29,6 +31,9 @@ const NO_SUCH: u32 = 300;
 
 // Added to the number of a refusal of the host side.
 const HOST: u32 = 400;
+
+// Added to the number of a refusal of a recording.
+const RECORDING: u32 = 500;
 
 // The highest numbers of a kind and of an event.
 const LAST_KIND: u8 = 1;
@@ -236,4 +241,28 @@ pub extern "C" fn khuyapesh_read(kind: u8, frame: &[u8], out: &mut [u8]) -> u32
         return NO_SUCH;
     }
     text_answer(frame::read(kind_of(kind), frame, out))
+}
+
+// Judges a recording.
+#[no_mangle]
+pub extern "C" fn khuyapesh_judge(recording: &[u8], place: &mut usize, count: &mut usize) -> u32
+    ensures { λ r. ⌜ (r, (now (place .exit), now (count .exit))) ≡ judgeNumbers (judgementOf (now (recording .entry))) ⌝ }
+{
+    match judging::judge(recording) {
+        Judgement::Fits(n) => {
+            *place = 0;
+            *count = n;
+            0
+        }
+        Judgement::Refuted(i, n) => {
+            *place = i;
+            *count = n;
+            1
+        }
+        Judgement::Refused(refusal) => {
+            *place = 0;
+            *count = 0;
+            RECORDING + base::wide(recording::number_of(refusal))
+        }
+    }
 }

@@ -1,3 +1,4 @@
 pub mod Laws
 pub mod Consequences
 pub mod Exact
+pub mod Bites

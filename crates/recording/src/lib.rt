@@ -3,7 +3,7 @@ use base::wide;
 ghost use mathlib.Core.Path.{_≡_};
 ghost use Prim.Native.Nat.{_≤_};
 ghost use lib.ListN.{length, drop};
-ghost use Rattle.recording.specs.Form.{exchangesIn, exchangeAt, recordingOf, summary, readAs, countOf};
+ghost use Rattle.recording.specs.Form.{exchangesIn, exchangeAt, recordingOf, summary, readAs, countOf, refusalNumber};
 
 // Why a recording is refused.
 pub enum Refusal {
@@ -17,6 +17,19 @@ pub enum Refusal {
     Header,
     // J5
     Cut,
+}
+
+// The number of J1 to J5.
+pub fn number_of(refusal: Refusal) -> u8
+    ensures { λ n. ⌜ n ≡ refusalNumber refusal ⌝ }
+{
+    match refusal {
+        Refusal::Length => 1,
+        Refusal::Version => 2,
+        Refusal::LengthField => 3,
+        Refusal::Header => 4,
+        Refusal::Cut => 5,
+    }
 }
 
 // Where an exchange has its request, up to stop, and its reply, up to end, where the next exchange starts.

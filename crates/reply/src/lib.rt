@@ -1,7 +1,6 @@
 // The text of a reply, written into the lent part of the reply buffer.
 use base::is_among;
 use command::Decision;
-use command::Refusal;
 use command::Request;
 use state::DONE;
 use state::PARAMETERS;
@@ -20,7 +19,7 @@ ghost use Rattle.state.specs.Field.{Field, get, flagNumber};
 ghost use Rattle.command.specs.Word.{digits};
 ghost use Rattle.command.specs.Status.{statusCharacters, statusCodes, codesOn};
 ghost use Rattle.command.specs.Commands.{placeNumber, factorPlace, OK};
-ghost use Rattle.command.specs.Request.{decisionAs, refusalNumber, shows};
+ghost use Rattle.command.specs.Request.{decisionAs, shows};
 ghost use Rattle.reply.specs.Reply.{overAt, labelled, labelledTwo, writtenOf};
 
 // ---- writers
@@ -236,22 +235,6 @@ fn show(r: Record, request: Request, at: usize, out: &mut [u8]) -> usize
     }
 }
 
-fn number_of(refusal: Refusal) -> u32
-    ensures { λ n. ⌜ n ≡ refusalNumber refusal ⌝ }
-{
-    match refusal {
-        Refusal::UnknownCode => 0,
-        Refusal::Malformed => 1,
-        Refusal::Keypad => 2,
-        Refusal::UnknownParameter => 4,
-        Refusal::Phase => 5,
-        Refusal::Range => 6,
-        Refusal::Level => 7,
-        Refusal::NotServed => 8,
-        Refusal::UnknownRecipe => 30,
-    }
-}
-
 // Writes a reply's text to the start of out, and gives its length; nothing, where out has no room for a text.
 pub fn write(r: Record, request: Request, decision: Decision, out: &mut [u8]) -> usize
     ensures { λ n. ⌜ (n, now (out .exit)) ≡ writtenOf (decisionAs decision) request r (now (out .entry)) ⌝ }
@@ -262,6 +245,12 @@ pub fn write(r: Record, request: Request, decision: Decision, out: &mut [u8]) ->
     let behind = put_digits(r.address as u32, 2, 0, out);
     match decision {
         Decision::Accepted => show(r, request, behind, out),
-        Decision::Refused(refusal) => put_labelled(b"NO", number_of(refusal), 2, behind, out),
+        Decision::Refused(refusal) => put_labelled(
+            b"NO",
+            command::number_of(refusal),
+            2,
+            behind,
+            out,
+        ),
     }
 }

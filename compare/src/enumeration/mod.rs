@@ -1,0 +1,53 @@
+//! What is enumerated and not sampled: every refusal against every phase, keypad, access and level,
+//! every combination of damages to a frame, every byte of a stored form, every pair of telling
+//! exchanges.
+
+mod calls;
+mod frames;
+mod recordings;
+mod records;
+
+use crate::comparison::{Comparison, Difference};
+use crate::frame::{self, Kind};
+use crate::record::{Record, VALUE_RANGES};
+
+const KINDS: [Kind; 2] = [Kind::Minicomputer, Kind::Terminal];
+
+pub fn enumerate(comparison: &mut Comparison) -> Result<(), Difference> {
+    calls::refusals(comparison)?;
+    calls::parameters(comparison)?;
+    calls::recipes(comparison)?;
+    calls::codes(comparison)?;
+    frames::damaged_frames(comparison)?;
+    frames::request_bytes(comparison)?;
+    frames::host_side(comparison)?;
+    records::panel_events(comparison)?;
+    records::stored_forms(comparison)?;
+    recordings::recordings(comparison)
+}
+
+/// The bytes of a lent buffer, told apart so that a moved one is seen.
+fn buffer(length: usize) -> Vec<u8> {
+    (0..length).map(|place| 0xFF - place as u8).collect()
+}
+
+fn request(kind: Kind, address: u8, command: &str) -> Vec<u8> {
+    frame::framed(kind, format!("{address:02}{command}").as_bytes())
+}
+
+/// A record in which no two parameters share value and level by accident.
+fn plain_record() -> Record {
+    let mut record = Record {
+        address: 42,
+        recipe: 3,
+        preset: 500,
+        raw: 12_345,
+        number: 9_999,
+        ..Record::low()
+    };
+    for (place, parameter) in record.parameters.iter_mut().enumerate() {
+        let (low, high) = VALUE_RANGES[place];
+        parameter.value = low + (place as u32 * 7 + 1) % (high - low + 1);
+    }
+    record
+}

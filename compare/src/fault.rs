@@ -1,0 +1,98 @@
+//! Planted faults. Each is one switch in this program's rules; the comparison has to notice each.
+
+macro_rules! faults {
+    ($($fault:ident $name:literal,)*) => {
+        #[derive(Clone, Copy, PartialEq, Eq, Debug)]
+        pub enum Fault {
+            /// The rules as document 01 gives them.
+            None,
+            $($fault,)*
+        }
+
+        /// Every planted fault with its name.
+        pub const PLANTED: &[(Fault, &str)] = &[$((Fault::$fault, $name),)*];
+    };
+}
+
+faults! {
+    // Frames and silences
+    CheckTakenForStx "check of 02 taken for a new STX",
+    CheckBeforeMarks "S5 tested before S4",
+    BytesBeforeCheck "S6 tested before S5",
+    AddressBeforeForm "S8 tested before S7",
+    LengthBeforeBuffer "S3 tested before S2",
+    SixtyFiveBytesRead "a frame of 65 bytes is read",
+    CheckCoversStx "check taken over STX too",
+    ReplyTailOverwritten "bytes beyond the reply overwritten",
+
+    // Refusals and their order
+    No01BeforeNo00 "NO01 tested before NO00",
+    No01ForNo08 "NO01 for the five requests of NO08",
+    No02BeforeNo08 "NO02 tested before NO08",
+    No06BeforeNo04 "NO06 tested before NO04",
+    No02BeforeNo30 "NO02 tested before NO30",
+    No02BeforeNo06 "NO02 tested before NO06",
+    No05BeforeNo06 "NO05 tested before NO06",
+    No07BeforeNo02 "NO07 tested before NO02",
+    No05BeforeNo07 "NO05 tested before NO07",
+    No05BeforeNo02 "NO05 tested before NO02",
+    StopRefusedByKeypad "SP refused by the keypad",
+    LevelWriteNeedsPhase "XC given a phase test",
+    LevelAboveAccessWritten "XC writes a level above the access",
+    EndAcceptedIdle "ET accepted in Idle",
+    TrailingSpaceAccepted "a space behind the last argument accepted",
+    ZeroBatchByFirstForm "SB 000000 accepted",
+
+    // Effects
+    RecordChangedOnRefusal "record changed on a refusal",
+    NumberNotWrapping "batch number 9999 not wrapping",
+    BatchClearsChanged "SB clears changed",
+    BatchKeepsRaw "SB keeps raw",
+    WriteInOtherFactor "a write lands in another recipe's factor",
+    WriteKeepsChanged "PC leaves changed off",
+    StatusAboveNineAsLetter "status values above 9 as letters",
+    ReleaseWhenStopped "RS shows RL when Stopped",
+
+    // Panel
+    PulsesPastPreset "pulses end a batch at > instead of >=",
+    PulsesWithoutModulo "raw grows without the modulo",
+    PulsesModuloFirst "preset compared with raw after the modulo",
+    PulsesGrowIdle "raw grows in Idle",
+    NoPulsesFlow "0 pulses turn flow on",
+    KeypadOnRunning "keypad on in Running",
+    PowerBackKeepsRunning "power back leaves Running",
+
+    // Stored record
+    LengthFieldBeforeVersion "K3 tested before K2",
+    UnusedFlagsIgnored "unused flag bits ignored",
+    RefusedRecordShown "a stored record refused by K4 is given as read",
+    AddressZeroStored "address 0 accepted in a stored record",
+
+    // Host side
+    BuildByteBeforeLength "H3 tested before H2",
+    BuildTailOverwritten "bytes beyond the built frame overwritten",
+    ReadTailOverwritten "bytes beyond the read text overwritten",
+
+    // Recordings and the judge
+    LengthFieldJudgedFirst "J3 tested before J2",
+    CutBeforeAddress "J5 tested before J4",
+    CutAfterRefutation "J5 behind a refutation overlooked",
+    CountUpToRefutation "N counts up to the refutation alone",
+    PlaceFromZero "I counts from 0",
+    SilenceExcused "a missing reply excused",
+    FirstExchangeAlone "the first exchange judged alone",
+    RecordNotMoved "the record not moved after a write",
+    ReachabilityUsed "Running with the keypad on excluded at the start",
+    LevelLearntAboveAccess "level learnt from an XC whose l is above the access",
+    PhaseRefusalAlone "NO05 read without what the passed checks tell",
+    StopTeachesKeypad "SP's NO05 taken to tell that the keypad is off",
+    KeypadRefusalTeachesLevel "NO02 taken to tell that the level was passed",
+    UnknownRecipeRefuted "RC refuted because the recipe is unknown",
+    WriteJudgedInCurrentRecipe "the judge moves the current recipe's factor",
+    ShownValueForgotten "a value that PV showed is forgotten",
+    ShownFactorForgotten "a factor that RC showed is forgotten",
+    ShownLevelForgotten "a level that XV showed is forgotten",
+    RefusedLevelForgotten "a level that NO07 told of is forgotten",
+    NumberForgottenByBatch "a known batch number forgotten at SB",
+    RangeNotHeld "an unknown field shown out of its range accepted",
+}

@@ -1,0 +1,7 @@
+//! Random inputs, from plausible ones to noise.
+
+pub mod host;
+pub mod recordings;
+pub mod records;
+pub mod requests;
+pub mod stored_forms;

@@ -1,0 +1,355 @@
+//! The judge, by explicit search over candidate records.
+//!
+//! Each combination of phase, flags and recipe is a candidate of its own that is stepped through the
+//! controller's rules, exchange by exchange. The other fields are settled when a request first looks
+//! at them: a level by trying each one that is left, a wide field (a value, raw, the batch number) by
+//! the number that the recorded reply shows, since a reply that shows a field shows it whole. The
+//! preset is never shown.
+
+use crate::command::Command;
+use crate::controller::{self, Request};
+use crate::fault::Fault;
+use crate::frame::{self, Kind};
+use crate::record::{
+    factor_place, value_in_range, Phase, Record, HIGHEST_LEVEL, HIGHEST_NUMBER, HIGHEST_RAW,
+    PARAMETERS, RECIPES, VALUE_RANGES,
+};
+use crate::recording;
+
+#[derive(Clone, Copy, PartialEq, Eq, Debug)]
+pub enum Judgement {
+    Fits { count: usize },
+    Refuted { place: usize, count: usize },
+    Refused(u8),
+}
+
+/// A set of records that agree in phase, flags and recipe. In `record` an unknown wide field stands
+/// at its low end, and so does each level, so that equal sets are equal candidates.
+#[derive(Clone, PartialEq, Eq, PartialOrd, Ord, Debug)]
+struct Candidate {
+    record: Record,
+    raw_known: bool,
+    number_known: bool,
+    /// One bit for each parameter whose value is known.
+    values_known: u32,
+    /// For each parameter, one bit for each level that it may have.
+    levels: [u8; PARAMETERS],
+}
+
+/// A field whose value a read shows in full.
+#[derive(Clone, Copy)]
+enum Wide {
+    Raw,
+    Number,
+    Value(usize),
+}
+
+fn every_candidate(address: u8, access: u8, fault: Fault) -> Vec<Candidate> {
+    let mut candidate = Candidate {
+        record: Record {
+            address,
+            access,
+            ..Record::low()
+        },
+        raw_known: false,
+        number_known: false,
+        values_known: 0,
+        levels: [(1 << (HIGHEST_LEVEL + 1)) - 1; PARAMETERS],
+    };
+    let mut candidates = Vec::with_capacity(5 * 32 * 8);
+    for phase in Phase::ALL {
+        for flags in 0..32 {
+            for recipe in 1..=RECIPES {
+                let flag = |bit: u8| flags & 1 << bit != 0;
+                let record = &mut candidate.record;
+                record.phase = phase;
+                record.keypad = flag(0);
+                record.flow = flag(1);
+                record.changed = flag(2);
+                record.batch_reset = flag(3);
+                record.power_fail = flag(4);
+                record.recipe = recipe;
+                let reachable = !record.keypad || matches!(phase, Phase::Idle | Phase::Done);
+                if fault != Fault::ReachabilityUsed || reachable {
+                    candidates.push(candidate.clone());
+                }
+            }
+        }
+    }
+    candidates
+}
+
+impl Candidate {
+    /// The wide field that a command shows of this candidate.
+    fn shown(&self, command: Command) -> Option<Wide> {
+        match command {
+            Command::RawTotal => Some(Wide::Raw),
+            Command::BatchNumber => Some(Wide::Number),
+            Command::Value(place) => Some(Wide::Value(place)),
+            Command::RecipeFactor => Some(Wide::Value(factor_place(self.record.recipe))),
+            _ => None,
+        }
+    }
+
+    fn knows(&self, field: Wide) -> bool {
+        match field {
+            Wide::Raw => self.raw_known,
+            Wide::Number => self.number_known,
+            Wide::Value(place) => self.values_known & 1 << place != 0,
+        }
+    }
+
+    /// Settles a field, or answers false if no valid record has that number there.
+    fn settle(&mut self, field: Wide, number: u32, fault: Fault) -> bool {
+        match field {
+            Wide::Raw => {
+                self.record.raw = number;
+                self.raw_known = true;
+                number <= HIGHEST_RAW
+            }
+            Wide::Number => {
+                self.record.number = number as u16;
+                self.number_known = true;
+                (1..=u32::from(HIGHEST_NUMBER)).contains(&number) || fault == Fault::RangeNotHeld
+            }
+            Wide::Value(place) => {
+                self.record.parameters[place].value = number;
+                self.values_known |= 1 << place;
+                value_in_range(place, number) || fault == Fault::RangeNotHeld
+            }
+        }
+    }
+
+    fn forget(&mut self, field: Wide) {
+        match field {
+            Wide::Raw => {
+                self.record.raw = 0;
+                self.raw_known = false;
+            }
+            Wide::Number => {
+                self.record.number = 1;
+                self.number_known = false;
+            }
+            Wide::Value(place) => {
+                self.record.parameters[place].value = VALUE_RANGES[place].0;
+                self.values_known &= !(1 << place);
+            }
+        }
+    }
+
+    /// Steps this candidate through a command that looks at no level; false if the reply disagrees.
+    fn step(&mut self, command: Command, reply: &[u8], fault: Fault) -> bool {
+        let shown = self.shown(command);
+        if let Some(field) = shown {
+            if !self.knows(field) {
+                let width = if command == Command::BatchNumber {
+                    4
+                } else {
+                    8
+                };
+                let Some(number) = last_digits(reply, width) else {
+                    return false;
+                };
+                if !self.settle(field, number, fault) {
+                    return false;
+                }
+            }
+        }
+        if !agrees(&self.record, command, reply, fault) {
+            return false;
+        }
+        if reply[2..] == *b"OK" && fault != Fault::RecordNotMoved {
+            self.record = controller::record_after(self.record, command, fault);
+        }
+        if let (Command::SetBatch(_), b"OK") = (command, &reply[2..]) {
+            self.raw_known = true;
+            self.record.preset = 0;
+            // One more than an unknown number, or 1 after 9999, may again be any.
+            if !self.number_known || fault == Fault::NumberForgottenByBatch {
+                self.forget(Wide::Number);
+            }
+        }
+        match (fault, shown) {
+            (Fault::ShownValueForgotten, Some(field)) if command != Command::RecipeFactor => {
+                self.forget(field)
+            }
+            (Fault::ShownFactorForgotten, Some(field)) if command == Command::RecipeFactor => {
+                self.forget(field)
+            }
+            _ => {}
+        }
+        let teaches_keypad =
+            fault == Fault::StopTeachesKeypad && command == Command::Stop && reply[2..] == *b"NO05";
+        !(teaches_keypad && self.record.keypad)
+    }
+
+    /// Steps this candidate through a command that looks at a parameter's level, with each level
+    /// that it may have; false if the reply agrees with none. No effect reads a level, so the records
+    /// after it differ in that level alone.
+    fn step_each_level(
+        &mut self,
+        command: Command,
+        place: usize,
+        reply: &[u8],
+        fault: Fault,
+    ) -> bool {
+        let phase_alone = fault == Fault::PhaseRefusalAlone && reply[2..] == *b"NO05";
+        let moves = reply[2..] == *b"OK" && fault != Fault::RecordNotMoved;
+        let mut trial = self.record;
+        trial.keypad &= !phase_alone;
+        let levels_before = self.levels[place];
+        let mut levels_after = 0;
+        for level in 0..=HIGHEST_LEVEL {
+            if levels_before & 1 << level == 0
+                || misjudged(trial.access, command, level, reply, fault)
+            {
+                continue;
+            }
+            trial.parameters[place].level = if phase_alone { 0 } else { level };
+            if !agrees(&trial, command, reply, fault) {
+                continue;
+            }
+            let level = match moves {
+                true => controller::record_after(trial, command, fault).parameters[place].level,
+                false => level,
+            };
+            levels_after |= 1 << level;
+        }
+        if levels_after == 0 {
+            return false;
+        }
+        self.levels[place] = levels_after;
+        if moves {
+            let hidden = self.record.parameters[place].level;
+            self.record = controller::record_after(self.record, command, fault);
+            self.record.parameters[place].level = hidden;
+        }
+        self.learn_written_value(command, reply, fault);
+        let forgotten = match fault {
+            Fault::ShownLevelForgotten => matches!(command, Command::Level(_)),
+            Fault::RefusedLevelForgotten => reply[2..] == *b"NO07",
+            _ => false,
+        };
+        if forgotten {
+            self.levels[place] = levels_before;
+        }
+        true
+    }
+
+    /// A value that was written is known.
+    fn learn_written_value(&mut self, command: Command, reply: &[u8], fault: Fault) {
+        let (Command::WriteValue(place, value), b"OK") = (command, &reply[2..]) else {
+            return;
+        };
+        self.values_known |= 1 << place;
+        if fault == Fault::WriteJudgedInCurrentRecipe && place < 24 && place % 3 == 1 {
+            self.forget(Wide::Value(place));
+            self.settle(Wide::Value(factor_place(self.record.recipe)), value, fault);
+        }
+    }
+}
+
+/// Whether a reply's text is the one that a record gives to a command.
+fn agrees(record: &Record, command: Command, reply: &[u8], fault: Fault) -> bool {
+    match controller::answer(record, command, fault) {
+        Ok(text) => text.bytes() == reply,
+        Err(number) => controller::refusal(record.address, number).bytes() == reply,
+    }
+}
+
+/// Whether a planted fault drops a level that the rules keep.
+fn misjudged(access: u8, command: Command, level: u8, reply: &[u8], fault: Fault) -> bool {
+    match (fault, command) {
+        (Fault::LevelLearntAboveAccess, Command::WriteLevel(_, written)) => {
+            reply[2..] == *b"NO07" && written > access && level <= access
+        }
+        (Fault::KeypadRefusalTeachesLevel, Command::WriteValue(..) | Command::WriteLevel(..)) => {
+            reply[2..] == *b"NO02" && level > access
+        }
+        _ => false,
+    }
+}
+
+/// The number in the last bytes of a reply, if they are digits.
+fn last_digits(reply: &[u8], width: usize) -> Option<u32> {
+    let start = reply.len().checked_sub(width)?;
+    let digits = &reply[start..];
+    digits.iter().all(u8::is_ascii_digit).then(|| {
+        digits
+            .iter()
+            .fold(0, |number, digit| number * 10 + u32::from(digit - b'0'))
+    })
+}
+
+/// Keeps the candidates that agree with one exchange, as they are after it.
+fn keep_agreeing(candidates: &mut Vec<Candidate>, request: &[u8], reply: &[u8], fault: Fault) {
+    if fault == Fault::SilenceExcused && reply.is_empty() {
+        return;
+    }
+    let address = candidates[0].record.address;
+    let understood = controller::understand(address, Kind::Minicomputer, request, fault);
+    // A reply is a frame as it should be; no other bytes are one.
+    let text = frame::open(Kind::Minicomputer, reply, fault);
+    let (command, text) = match (understood, text) {
+        (Request::Silent(_), _) if reply.is_empty() => return,
+        (Request::Refused(number, _), Ok(text))
+            if text == controller::refusal(address, number).bytes() =>
+        {
+            return
+        }
+        (Request::Asked(command), Ok(text)) => (command, text),
+        _ => return candidates.clear(),
+    };
+    if fault == Fault::UnknownRecipeRefuted && command == Command::RecipeFactor {
+        let recipe = candidates[0].record.recipe;
+        if candidates.iter().any(|other| other.record.recipe != recipe) {
+            return candidates.clear();
+        }
+    }
+    candidates.retain_mut(|candidate| match command {
+        Command::Level(place) | Command::WriteValue(place, _) | Command::WriteLevel(place, _) => {
+            candidate.step_each_level(command, place, text, fault)
+        }
+        _ if fault == Fault::PhaseRefusalAlone && text[2..] == *b"NO05" => {
+            let mut without_keypad = candidate.clone();
+            without_keypad.record.keypad = false;
+            without_keypad.step(command, text, fault)
+        }
+        _ => candidate.step(command, text, fault),
+    });
+    // Writes make different records equal; reads do not.
+    if !command.is_read() && text[2..] == *b"OK" {
+        candidates.sort_unstable();
+        candidates.dedup();
+    }
+}
+
+/// Judges a recording.
+pub fn judge(bytes: &[u8], fault: Fault) -> Judgement {
+    let recording = match recording::read(bytes, fault) {
+        Ok(recording) => recording,
+        Err(number) => return Judgement::Refused(number),
+    };
+    let count = recording.exchanges.len();
+    let mut candidates = every_candidate(recording.address, recording.access, fault);
+    for (before, exchange) in recording.exchanges.iter().enumerate() {
+        keep_agreeing(&mut candidates, exchange.request, exchange.reply, fault);
+        if candidates.is_empty() {
+            let place = before + 1;
+            return Judgement::Refuted {
+                place: place - usize::from(fault == Fault::PlaceFromZero),
+                count: match fault {
+                    Fault::CountUpToRefutation => place,
+                    _ => count,
+                },
+            };
+        }
+        if fault == Fault::FirstExchangeAlone {
+            break;
+        }
+    }
+    if recording.cut {
+        return Judgement::Refused(5);
+    }
+    Judgement::Fits { count }
+}

@@ -1,0 +1,136 @@
+//! The proved library: its C functions and wrappers over slices. The only file with `unsafe`.
+//!
+//! With the feature `self_test` the wrappers call this program's own rules.
+
+#[cfg(not(feature = "self_test"))]
+mod declared {
+    #![allow(unsafe_code)]
+
+    extern "C" {
+        fn khuyapesh_call(
+            kind: u8,
+            stored: *mut u8,
+            stored_length: usize,
+            request: *const u8,
+            request_length: usize,
+            reply: *mut u8,
+            reply_length: usize,
+        ) -> u32;
+        fn khuyapesh_panel(event: u8, pulses: u16, stored: *mut u8, stored_length: usize) -> u32;
+        fn khuyapesh_stored(
+            stored: *const u8,
+            stored_length: usize,
+            out: *mut u8,
+            out_length: usize,
+        ) -> u32;
+        fn khuyapesh_build(
+            kind: u8,
+            text: *const u8,
+            text_length: usize,
+            out: *mut u8,
+            out_length: usize,
+        ) -> u32;
+        fn khuyapesh_read(
+            kind: u8,
+            frame: *const u8,
+            frame_length: usize,
+            out: *mut u8,
+            out_length: usize,
+        ) -> u32;
+        fn khuyapesh_judge(
+            recording: *const u8,
+            recording_length: usize,
+            place: *mut usize,
+            count: *mut usize,
+        ) -> u32;
+    }
+
+    pub fn call(kind: u8, stored: &mut [u8], request: &[u8], reply: &mut [u8]) -> u32 {
+        // SAFETY: pointers and lengths of live slices; those that are written overlap no other.
+        unsafe {
+            khuyapesh_call(
+                kind,
+                stored.as_mut_ptr(),
+                stored.len(),
+                request.as_ptr(),
+                request.len(),
+                reply.as_mut_ptr(),
+                reply.len(),
+            )
+        }
+    }
+
+    pub fn panel(event: u8, pulses: u16, stored: &mut [u8]) -> u32 {
+        // SAFETY: pointer and length of a live slice.
+        unsafe { khuyapesh_panel(event, pulses, stored.as_mut_ptr(), stored.len()) }
+    }
+
+    pub fn stored(stored: &[u8], out: &mut [u8]) -> u32 {
+        // SAFETY: pointers and lengths of live slices that do not overlap.
+        unsafe { khuyapesh_stored(stored.as_ptr(), stored.len(), out.as_mut_ptr(), out.len()) }
+    }
+
+    pub fn build(kind: u8, text: &[u8], out: &mut [u8]) -> u32 {
+        // SAFETY: pointers and lengths of live slices that do not overlap.
+        unsafe { khuyapesh_build(kind, text.as_ptr(), text.len(), out.as_mut_ptr(), out.len()) }
+    }
+
+    pub fn read(kind: u8, frame: &[u8], out: &mut [u8]) -> u32 {
+        // SAFETY: pointers and lengths of live slices that do not overlap.
+        unsafe {
+            khuyapesh_read(
+                kind,
+                frame.as_ptr(),
+                frame.len(),
+                out.as_mut_ptr(),
+                out.len(),
+            )
+        }
+    }
+
+    /// The answer, the place and the count.
+    pub fn judge(recording: &[u8]) -> (u32, usize, usize) {
+        // Neither number is one that the library should leave.
+        let (mut place, mut count) = (usize::MAX, usize::MAX);
+        // SAFETY: pointer and length of a live slice, and pointers to two numbers of our own.
+        let answer =
+            unsafe { khuyapesh_judge(recording.as_ptr(), recording.len(), &mut place, &mut count) };
+        (answer, place, count)
+    }
+}
+
+#[cfg(not(feature = "self_test"))]
+pub use declared::{build, call, judge, panel, read, stored};
+
+#[cfg(feature = "self_test")]
+mod stand_in {
+    use crate::fault::Fault;
+    use crate::interface;
+
+    pub fn call(kind: u8, stored: &mut [u8], request: &[u8], reply: &mut [u8]) -> u32 {
+        interface::call(kind, stored, request, reply, Fault::None)
+    }
+
+    pub fn panel(event: u8, pulses: u16, stored: &mut [u8]) -> u32 {
+        interface::panel(event, pulses, stored, Fault::None)
+    }
+
+    pub fn stored(stored: &[u8], out: &mut [u8]) -> u32 {
+        interface::stored(stored, out, Fault::None)
+    }
+
+    pub fn build(kind: u8, text: &[u8], out: &mut [u8]) -> u32 {
+        interface::build(kind, text, out, Fault::None)
+    }
+
+    pub fn read(kind: u8, frame: &[u8], out: &mut [u8]) -> u32 {
+        interface::read(kind, frame, out, Fault::None)
+    }
+
+    pub fn judge(recording: &[u8]) -> (u32, usize, usize) {
+        interface::judge(recording, Fault::None)
+    }
+}
+
+#[cfg(feature = "self_test")]
+pub use stand_in::{build, call, judge, panel, read, stored};

@@ -1,0 +1,5 @@
+pub mod Exchange
+pub mod Loop
+pub mod Agreement
+pub mod Theorem
+pub mod Worked

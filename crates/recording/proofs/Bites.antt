@@ -1,0 +1,219 @@
+-- What the statement of demand 3 allows and what it excludes, on small recordings that a statement without one of its clauses judges
+-- otherwise. Where a record fits, it is named and the calls are computed; where none fits, the laws of every call tell it. Assumes nothing.
+use Prim.Native.Nat.{ℕ}
+use mathlib.Core.Bool.{Bool, true, false, _||_}
+use mathlib.Core.Path.{_≡_, refl, sym, ap, subst, _∙_}
+use mathlib.Core.List.{List, [], _∷_, _++_}
+use mathlib.Core.Logic.{⊎-elim}
+use native.Mathlib.Omega.{arith}
+use lib.Dec.{ltb}
+use lib.ListN.{length, take, drop, getD, replicate}
+use Rattle.base.specs.Test.{allBetween}
+use Rattle.base.specs.Lists.{over}
+use Rattle.state.specs.declared.Record.{Record}
+use Rattle.state.specs.Parameter.{placeIn, placeOf, rangeAt}
+use Rattle.state.specs.Field.{address, access, recipe, level, get, put}
+use Rattle.state.specs.Valid.{allIn, valid}
+use Rattle.frame.specs.declared.Kind.the-variants.{Minicomputer}
+use Rattle.frame.specs.Frame.{namesUnit, addressIn, xorFrom, frameOf, textIn, withinLimits, marksRight, checkRight}
+use Rattle.frame.proofs.Laws.{over-take}
+use Rattle.command.specs.Word.{digits, valueFrom}
+use Rattle.command.specs.Status.{statusCharacters}
+use Rattle.command.specs.Commands as commands
+use Rattle.command.specs.Commands.{codeIn, digitsBetween, formed, parameterIn, numberIn, secondIn, applied, rowOf, word, spaced}
+use Rattle.command.specs.Answer.{Verdict, NO, firstOf, verdict, replyFor, replyText, recordAfter}
+use Rattle.command.specs.Answer as answer
+use Rattle.command.specs.Bench.{bench}
+use Rattle.controller.specs.Call.{Outcome, callOf}
+use Rattle.controller.specs.Worked.{bytes, check, framed}
+use Rattle.controller.proofs.ReadBack.{AnswersAt, status-read}
+use Rattle.controller.proofs.Theorems.{Silenced, Answered, every-input, accepted-by-none, recipe-after-recipe}
+use Rattle.recording.specs.Form.{Exchange, Recording, J, exchangesIn, recordingOf}
+use Rattle.recording.specs.Replay.{Answer, fits, refuted, AllAgree, Right}
+use Rattle.recording.specs.Statement.{AgreesIn, Agrees, next, Start, Fits, Judgement, refused, judged, RightOf, Demand3}
+use Rattle.recording.proofs.Consequences.{prefix, one-answer, one-judgement, buffer-free}
+
+infix 70 _gets_
+abbrev pub _gets_ : List ℕ → List ℕ → Exchange
+q gets a = record { request = q; reply = a }
+
+-- ---- recordings that some record fits
+
+-- all of the exchanges agree with a buffer of zeros
+abbrev AllIn : Record → List Exchange → Type 0
+AllIn r es = AllAgree next (λ s e. AgreesIn s e (replicate 64 0)) r es
+
+-- what agrees with one buffer agrees with any
+any-buffer : (r : Record) (es : List Exchange) → AllIn r es → AllAgree next Agrees r es
+any-buffer r [] h = tt
+any-buffer r (e ∷ es) h = (λ o l. buffer-free r e (replicate 64 0) o refl l (h .0), any-buffer (next r e) es (h .1))
+
+fit-by : (r : Record) (es : List Exchange) → valid r ≡ true → AllIn r es → Fits (get address r) (get access r) es
+fit-by r es v h = (r, record { valid-record = v; same-address = refl; same-access = refl }, any-buffer r es h)
+
+-- a recipe that is set is shown afterwards, and another before
+abbrev pub recipe-kept : List Exchange
+recipe-kept = (framed "01RR" gets framed "01RR 03") ∷ (framed "01NR 04" gets framed "01OK") ∷ (framed "01RR" gets framed "01RR 04") ∷ []
+
+-- two exchanges, the second of which shows another recipe than the one just set
+abbrev pub recipe-lost : List Exchange
+recipe-lost = (framed "01NR 03" gets framed "01OK") ∷ (framed "01RR" gets framed "01RR 04") ∷ []
+
+-- a frame of no bytes and one to another address that met silence
+abbrev pub silences : List Exchange
+silences = ([] gets []) ∷ (framed "02EQ" gets []) ∷ []
+
+-- a level that is set to 3
+abbrev pub level-raised : List Exchange
+level-raised = (framed "01XC 011 3" gets framed "01OK") ∷ []
+
+pub some-fit : Fits 1 2 recipe-kept × Fits 1 2 (take 1 recipe-lost) × Fits 1 2 (drop 1 recipe-lost) × Fits 1 2 silences × Fits 1 3 level-raised
+unfolding bytes check bench callOf valid allIn rangeAt placeOf placeIn withinLimits marksRight checkRight xorFrom textIn allBetween namesUnit addressIn frameOf over replyText recordAfter verdict firstOf codeIn formed digitsBetween valueFrom parameterIn commands.placeIn numberIn secondIn rowOf digits applied put
+some-fit = (
+  fit-by bench recipe-kept refl ((refl, refl), ((refl, refl), ((refl, refl), tt))),
+  fit-by bench (take 1 recipe-lost) refl ((refl, refl), tt),
+  fit-by (put recipe 4 bench) (drop 1 recipe-lost) refl ((refl, refl), tt),
+  fit-by bench silences refl ((refl, refl), ((refl, refl), tt)),
+  fit-by (put access 3 bench) level-raised refl ((refl, refl), tt),
+)
+
+-- ---- what an answered call tells of the recorded reply
+
+-- the frame that goes out is the one that was recorded
+heard-frame : (r : Record) (e : Exchange) (o f : List ℕ) (s : Record)
+    → callOf Minicomputer r (e .request) o ≡ record { silence = 0; reported = length f; after = s; buffer = over f o } → AgreesIn r e o → f ≡ e .reply
+heard-frame r e o f s c h = sym (over-take f o (length f) refl) ∙ (sym (ap (λ (x : Outcome). take (x .reported) (x .buffer)) c) ∙ h .1)
+
+-- EQ at address 1
+status-heard : (r : Record) (a : List ℕ) → valid r ≡ true → get address r ≡ 1 → Agrees r (framed "01EQ" gets a)
+    → frameOf Minicomputer (digits 2 1 ++ statusCharacters r) ≡ a
+unfolding frameOf xorFrom digits bytes check
+status-heard r a v i h =
+    let o : List ℕ = replicate 64 0 in
+    let answers : AnswersAt Minicomputer r o 1 (word 0x45 0x51) (statusCharacters r) =
+    subst (λ (n : ℕ). AnswersAt Minicomputer r o n (word 0x45 0x51) (statusCharacters r)) i (status-read Minicomputer r o v (omega arith)) in
+    heard-frame r (framed "01EQ" gets a) o _ r answers (h o refl)
+
+-- ---- recordings that no record fits
+
+-- a sound request to the address that met silence
+abbrev pub unanswered : Exchange
+unanswered = framed "01EQ" gets []
+
+pub silence-refuted : (c : ℕ) → Fits 1 c (unanswered ∷ []) → ⊥
+unfolding frameOf
+silence-refuted c h =
+    let (r, s, a) = h in
+    let e : frameOf Minicomputer (digits 2 1 ++ statusCharacters r) ≡ [] = status-heard r [] (s .valid-record) (s .same-address) (a .0) in
+    let z = ap length e in
+    omega arith
+
+-- a reply of the right length whose third status character is not 0
+pub bytes-refuted : (c : ℕ) → Fits 1 c ((framed "01EQ" gets framed "01001000") ∷ []) → ⊥
+unfolding frameOf statusCharacters digits bytes
+bytes-refuted c h =
+    let (r, s, a) = h in
+    let z = ap (λ (f : List ℕ). getD f 5 0) (status-heard r (framed "01001000") (s .valid-record) (s .same-address) (a .0)) in
+    omega arith
+
+-- a frame of no bytes that was answered
+pub answer-refuted : (a c x : ℕ) (xs : List ℕ) → Fits a c (([] gets (x ∷ xs)) ∷ []) → ⊥
+unfolding callOf withinLimits
+answer-refuted a c x xs h =
+    let (r, s, g) = h in
+    let z : 0 ≡ length (x ∷ xs) = simp (s .valid-record) at (g .0 (replicate 64 0) refl .0) in
+    omega arith
+
+-- a call that reports the length of OK is answered, and with OK: NO is of 10 bytes
+module _ (r : Record) (q o : List ℕ) (h : callOf Minicomputer r q o .reported ≡ 8) where
+  answered : Answered Minicomputer r q o
+  answered =
+      ⊎-elim (λ (s : Silenced Minicomputer r q o). let z = s .nothing in absurd (omega arith)) (λ (a : Answered Minicomputer r q o). a)
+      (every-input Minicomputer r q o)
+
+  accepted-so : verdict (textIn Minicomputer q) r ≡ answer.accepted
+  unfolding replyText frameOf digits
+  accepted-so = go (verdict (textIn Minicomputer q) r) refl (sym (answered .size) ∙ h)
+    where
+      go : (x : Verdict) → verdict (textIn Minicomputer q) r ≡ x
+          → length (frameOf Minicomputer (digits 2 (get address r) ++ replyFor x (textIn Minicomputer q) r)) ≡ 8
+          → verdict (textIn Minicomputer q) r ≡ answer.accepted
+      go (NO n) e z = absurd (omega arith)
+      go answer.accepted e z = e
+
+-- one of two tests holds
+second-holds : (b : Bool) → (b || true) ≡ false → ⊥
+second-holds true e = let z : _≡_ {A = ℕ} 0 1 = cc in omega arith
+second-holds false e = let z : _≡_ {A = ℕ} 0 1 = cc in omega arith
+
+-- a level above the access that was set
+pub level-refuted : Fits 1 2 level-raised → ⊥
+unfolding textIn codeIn secondIn valueFrom bytes
+level-refuted h =
+    let (r, s, g) = h in
+    let q : List ℕ = framed "01XC 011 3" in
+    let ok = accepted-so r q (replicate 64 0) (g .0 (replicate 64 0) refl .0) in
+    let t : List ℕ = textIn Minicomputer q in
+    second-holds (ltb 2 (get (level (commands.placeIn t)) r)) (simp (s .same-access) at (accepted-by-none t r ok 7 (omega arith)))
+
+-- each of two exchanges fits alone, as above, but not the one after the other
+pub lost-refuted : (c : ℕ) → Fits 1 c recipe-lost → ⊥
+unfolding textIn codeIn numberIn valueFrom frameOf xorFrom digits bytes check
+lost-refuted c h =
+    let (r, s, g) = h in
+    let q : List ℕ = framed "01NR 03" in
+    let o : List ℕ = replicate 64 0 in
+    let told = g .0 o refl .0 in
+    let after : Record = next r (q gets framed "01OK") in
+    let shown = recipe-after-recipe Minicomputer Minicomputer r q o o (answered r q o told .heard) (accepted-so r q o told) (omega arith) refl in
+    let answers : AnswersAt Minicomputer after o 1 (word 0x52 0x52) (spaced (word 0x52 0x52 ∷ digits 2 3 ∷ [])) =
+    subst (λ (n : ℕ). AnswersAt Minicomputer after o n (word 0x52 0x52) (spaced (word 0x52 0x52 ∷ digits 2 3 ∷ []))) (s .same-address) shown in
+    let z = ap (λ (f : List ℕ). getD f 7 0) (heard-frame after (framed "01RR" gets framed "01RR 04") o _ after answers (g .1 .0 o refl)) in
+    omega arith
+
+-- ---- the one right answer
+abbrev pub Only : List Exchange → Answer → Type 0
+Only es x = Right (Fits 1 2) es x × ((y : Answer) → Right (Fits 1 2) es y → y ≡ x)
+
+only : (es : List Exchange) (x : Answer) → Right (Fits 1 2) es x → Only es x
+only es x h = (h, λ y i. one-answer next Agrees (Start 1 2) es y x i h)
+
+pub kept-answer : Only recipe-kept (fits 3)
+kept-answer = only recipe-kept (fits 3) (refl, some-fit .0)
+
+pub lost-answer : Only recipe-lost (refuted 2 2)
+lost-answer = only recipe-lost (refuted 2 2) (refl, omega arith, omega arith, some-fit .1, lost-refuted 2)
+
+nothing-fits : Fits 1 2 []
+nothing-fits = prefix next Agrees (Start 1 2) recipe-kept (some-fit .0) 0
+
+-- what comes after the first that does not agree changes nothing
+pub unanswered-answer : Only (unanswered ∷ unanswered ∷ []) (refuted 1 2)
+unanswered-answer = only (unanswered ∷ unanswered ∷ []) (refuted 1 2) (refl, omega arith, omega arith, nothing-fits, silence-refuted 2)
+
+-- of a recording's bytes
+abbrev pub OnlyOf : List ℕ → Judgement → Type 0
+OnlyOf bs j = Demand3 bs j × ((i : Judgement) → Demand3 bs i → i ≡ j)
+
+only-of : (bs : List ℕ) (j : Judgement) → Demand3 bs j → OnlyOf bs j
+only-of bs j h = (h, λ i g. one-judgement bs i j g h)
+
+-- no exchange at all
+abbrev pub empty-recording : List ℕ
+empty-recording = 0x01 ∷ 0x00 ∷ 0x05 ∷ 0x01 ∷ 0x02 ∷ []
+
+pub empty-judged : OnlyOf empty-recording (judged (fits 0))
+unfolding recordingOf exchangesIn
+empty-judged = only-of empty-recording (judged (fits 0)) (refl, nothing-fits)
+
+-- EQ that met silence, at address 1 and access 2
+abbrev pub silence-recording : List ℕ
+silence-recording = 0x01 ∷ 0x00 ∷ 0x0f ∷ 0x01 ∷ 0x02 ∷ 0x08 ∷ (framed "01EQ" ++ (0x00 ∷ []))
+
+pub silence-judged : OnlyOf silence-recording (judged (refuted 1 1))
+unfolding recordingOf exchangesIn bytes check
+silence-judged = only-of silence-recording (judged (refuted 1 1)) (refl, omega arith, omega arith, nothing-fits, silence-refuted 2)
+
+-- what is not well-formed is refused with its number
+pub refusal-judged : (bs : List ℕ) (n : ℕ) → recordingOf bs ≡ J n → OnlyOf bs (refused n)
+refusal-judged bs n e = only-of bs (refused n) (subst (λ (x : Recording). RightOf x (refused n)) (sym e) refl)

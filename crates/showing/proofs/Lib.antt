@@ -1,0 +1,12 @@
+pub mod Masks
+pub mod Reading
+pub mod Telling
+pub mod Status
+pub mod Codes
+pub mod Numbers
+pub mod Fields
+pub mod Signs
+pub mod Listing
+pub mod Widths
+pub mod Composition
+pub mod Exact

@@ -1,0 +1,588 @@
+#!/usr/bin/env python3
+"""Makes the example recordings, examples/*.recording, from the descriptions below.
+
+    scripts/examples.py            writes them
+    scripts/examples.py --check    only compares them with the files present; status 1 on a difference
+
+An exchange is a pair of a request and a reply. A text stands for the frame of that text, the
+controller's address before it; bytes stand for themselves, so that a frame can be wrong. The answer
+of the judge to each recording stands in examples/expected and is not made here.
+"""
+
+import argparse
+import pathlib
+import random
+import re
+import sys
+
+FOLDER = pathlib.Path(__file__).resolve().parent.parent / "examples"
+
+START = 0x02
+END_OF_TEXT = 0x03
+PAD = 0x7F
+SILENCE = b""
+
+VERSION = 1
+HEADER_LENGTH = 5
+
+
+# Frames and recordings
+
+
+def framed(address, text):
+    """The frame of a text: start mark, text, end mark, check character, pad."""
+    checked = f"{address:02}{text}".encode("ascii") + bytes([END_OF_TEXT])
+    check = 0
+    for byte in checked:
+        check ^= byte
+    return bytes([START]) + checked + bytes([check, PAD])
+
+
+def exchange_bytes(address, request, reply):
+    """One exchange as it stands in a recording: each frame behind its length."""
+    stored = b""
+    for frame in (request, reply):
+        if isinstance(frame, str):
+            frame = framed(address, frame)
+        stored += bytes([len(frame)]) + frame
+    return stored
+
+
+def header(length, address, access, version=VERSION):
+    return bytes([version]) + length.to_bytes(2, "big") + bytes([address, access])
+
+
+def recording(address, access, exchanges, version=VERSION):
+    body = b"".join(exchange_bytes(address, request, reply) for request, reply in exchanges)
+    return header(HEADER_LENGTH + len(body), address, access, version) + body
+
+
+# The bench: address 1, access 2, as in the worked examples of document 01
+
+BENCH_OLD_FACTOR = [
+    ("EQ", "000000"),
+    ("PC 032 10150", "OK"),
+    ("RC", "RC 03 00010012"),
+]
+
+# Recipe 4 is another recipe than the one written, and its factor was never shown before.
+BENCH_OTHER_RECIPE = BENCH_OLD_FACTOR[:-1] + [("RC", "RC 04 00010012")]
+
+# Byte for byte as printed in document 01: the check character of the reply is 02, as the start mark.
+CHECK_CHARACTER_02 = [
+    (
+        bytes.fromhex("02 30 31 45 51 03 16 7F"),
+        bytes.fromhex("02 30 31 30 30 30 30 30 30 03 02 7F"),
+    ),
+]
+
+# SP's refusal rules out Running, SA's Set and Stopped, SB's the two that are left.
+NO_PHASE_LEFT = [
+    ("SP", "NO05"),
+    ("SA", "NO05"),
+    ("SB 500", "NO05"),
+]
+
+# The keypad is tested before the phase: whoever names the phase has found the keypad off.
+KEYPAD_THEN_PHASE = [
+    ("SA", "NO02"),
+    ("SB 1", "NO05"),
+]
+
+# Level 3 is above this link's access of 2, so the refusal tells nothing of the level that the
+# parameter has: 032 turns out to be open to this link and 042 closed.
+LEVEL_STAYS_OPEN = [
+    ("XC 032 3", "NO07"),
+    ("XV 032", "XV 032 1"),
+    ("PC 032 10150", "OK"),
+    ("XC 042 3", "NO07"),
+    ("XV 042", "XV 042 3"),
+    ("PC 042 10150", "NO07"),
+]
+
+# The new factor was meant for recipe 3 and turns up in recipe 4.
+ANOTHER_RECIPES_FACTOR = [
+    ("RR", "RR 03"),
+    ("PV 032", "PV 032 00010012"),
+    ("PV 042", "PV 042 00009990"),
+    ("PC 032 10150", "OK"),
+    ("PV 042", "PV 042 00010150"),
+    ("PV 032", "PV 032 00010012"),
+]
+
+# No rule joins two fields, so this is a state to start from, however it came about. The first
+# status character is 8 + 4 + 1 = 13, which is "=". SP alone is accepted with the keypad on.
+RUNNING_WITH_KEYPAD_ON = [
+    ("EQ", "=80100"),
+    ("RS", "RS PF PW TP RL "),
+    ("SA", "NO02"),
+    ("PC 032 10150", "NO02"),
+    ("SP", "OK"),
+    ("EQ", "980100"),
+    ("ET", "NO02"),
+]
+
+# On the way to the controller a digit became another; the check character is still that of 10150.
+DISTURBED_WRITE = framed(1, "PC 032 10150").replace(b"10150", b"10950")
+
+WRONG_FRAME_SILENCE = [
+    ("PV 032", "PV 032 00010012"),
+    (DISTURBED_WRITE, SILENCE),
+    ("PV 032", "PV 032 00010012"),
+    # The pad was lost, and the frame is a byte short.
+    (framed(1, "PC 032 10150")[:-1], SILENCE),
+    # 65 bytes, one more than the longest frame.
+    (framed(1, "PC 032 10150" + " " * 47), SILENCE),
+    # Meant for the controller with address 2.
+    (framed(2, "PC 032 10150"), SILENCE),
+    ("PV 032", "PV 032 00010012"),
+    ("PC 032 10150", "OK"),
+    ("PV 032", "PV 032 00010150"),
+]
+
+WRONG_FRAME_ANSWERED = [
+    ("PV 032", "PV 032 00010012"),
+    (DISTURBED_WRITE, "OK"),
+    ("PV 032", "PV 032 00010950"),
+]
+
+
+# The Monday of the drum change: address 12, access 2
+
+MONDAY_BEFORE_THE_FAULT = [
+    # Switching on: nothing runs, and Friday's last batch was number 417 of recipe 5.
+    ("EQ", "000000"),
+    ("RS", "RS "),
+    ("TN", "TN 0417"),
+    ("RR", "RR 05"),
+    ("RC", "RC 05 00009940"),
+    # To recipe 3, whose drum was changed; its factor is still that of the old drum.
+    ("NR 03", "OK"),
+    ("RR", "RR 03"),
+    ("RC", "RC 03 00010012"),
+    ("PV 031", "PV 031 00002500"),
+    ("XV 032", "XV 032 1"),
+    # The factor on the new drum's sheet. The controller says OK, and that a value was changed.
+    ("PC 032 10150", "OK"),
+    ("EQ", "000800"),
+    ("RE PC", "OK"),
+]
+
+MONDAY_AFTER_THE_OK = [
+    # The old factor, of the very recipe whose new one was accepted.
+    ("RC", "RC 03 00010012"),
+    ("PV 032", "PV 032 00010012"),
+    # Nobody looked, and the batch was started.
+    ("SB 4000", "OK"),
+    ("TN", "TN 0418"),
+    ("EQ", "120000"),
+    ("SA", "OK"),
+    ("EQ", "5:0000"),
+]
+
+MONDAY_DRUM_CHANGE = MONDAY_BEFORE_THE_FAULT + MONDAY_AFTER_THE_OK
+
+
+# A day without a fault: address 7, access 2
+
+HONEST_DAY = [
+    # The morning's look around.
+    ("EQ", "000000"),
+    ("RS", "RS "),
+    ("TN", "TN 0211"),
+    ("RR", "RR 02"),
+    ("RC", "RC 02 00009987"),
+    ("RT R", "RT R 00048210"),
+    ("RT N", "NO08"),
+    ("PV 801", "PV 801 00000005"),
+    ("XV 807", "XV 807 3"),
+    # Another recipe, mistyped twice.
+    ("NR 3", "NO01"),
+    ("NR 09", "NO30"),
+    ("NR 03", "OK"),
+    ("RR", "RR 03"),
+    ("RC", "RC 03 00010012"),
+    # A new factor: above the highest, to a parameter that is not there, then as it should be.
+    ("PC 032 13000", "NO06"),
+    ("PC 092 10150", "NO04"),
+    ("PC 032 10150", "OK"),
+    ("PV 032", "PV 032 00010150"),
+    ("RC", "RC 03 00010150"),
+    ("EQ", "000800"),
+    # What this link may not do, and what it may.
+    ("PC 807 120", "NO07"),
+    ("XC 032 3", "NO07"),
+    ("XV 032", "XV 032 1"),
+    ("XC 032 2", "OK"),
+    ("XV 032", "XV 032 2"),
+    ("RE PC", "OK"),
+    ("EQ", "000000"),
+    # A batch, which cannot be started before it is set.
+    ("SA", "NO05"),
+    ("SB 0", "NO06"),
+    ("SB 2500", "OK"),
+    ("TN", "TN 0212"),
+    ("RT R", "RT R 00000000"),
+    ("EQ", "120000"),
+    ("SP", "NO05"),
+    ("SA", "OK"),
+    ("EQ", "5:0000"),
+    ("RS", "RS BD TP RL "),
+    # While it runs nothing may be changed.
+    ("PC 032 10200", "NO05"),
+    ("NR 04", "NO05"),
+    ("SB 100", "NO05"),
+    ("ET", "NO05"),
+    ("QQ", "NO00"),
+    ("RE PF", "NO08"),
+    ("RE BD", "OK"),
+    ("EQ", "580000"),
+    # A pause, then to the end.
+    ("SP", "OK"),
+    ("EQ", "180000"),
+    ("RS", "RS TP "),
+    ("SA", "OK"),
+    ("SA", "NO05"),
+    ("SP", "OK"),
+    ("ET", "OK"),
+    ("EQ", "000000"),
+    ("RS", "RS "),
+    ("TN", "TN 0212"),
+    ("RC", "RC 03 00010150"),
+]
+
+
+# The long one, from a simulation of the rules
+
+RECIPES = range(1, 9)
+HIGHEST_LEVEL = 3
+HIGHEST_BATCH_NUMBER = 9_999
+HIGHEST_RAW_VOLUME = 99_999_999
+
+# The lowest and highest value of each parameter: shares, factors, low flows, then the system's.
+PARAMETER_RANGES = {
+    **{f"0{recipe}1": (0, 10_000) for recipe in RECIPES},
+    **{f"0{recipe}2": (8_000, 12_000) for recipe in RECIPES},
+    **{f"0{recipe}3": (1, 9_999) for recipe in RECIPES},
+    "801": (0, 99),
+    "802": (0, 999),
+    "803": (0, 9_999),
+    "804": (1, 9_999),
+    "805": (0, 3),
+    "806": (0, 1),
+    "807": (1, 99_999),
+    "808": (0, 9),
+}
+PARAMETERS = list(PARAMETER_RANGES)
+
+# What has to follow each code.
+FORMS = {
+    "EQ": r"",
+    "RS": r"",
+    "TN": r"",
+    "RR": r"",
+    "RC": r"",
+    "RT": r" [RGNPM]",
+    "PV": r" [0-9]{3}",
+    "XV": r" [0-9]{3}",
+    "PC": r" [0-9]{3} [0-9]{1,8}",
+    "XC": r" [0-9]{3} [0-9]",
+    "NR": r" [0-9]{2}",
+    "SB": r" [0-9]{1,6}",
+    "SA": r"",
+    "SP": r"",
+    "ET": r"",
+    "RE": r" (BD|PC|PF)",
+}
+
+# The phases in which a command is accepted; the others are accepted in each.
+PHASES_NEEDED = {
+    "PC": ("Idle", "Done"),
+    "NR": ("Idle", "Done"),
+    "SB": ("Idle", "Done"),
+    "SA": ("Set", "Stopped"),
+    "SP": ("Running",),
+    "ET": ("Set", "Stopped", "Done"),
+}
+
+
+class Chance:
+    """Numbers by chance, the same from a seed in every version of Python."""
+
+    def __init__(self, seed):
+        self.source = random.Random(seed)
+
+    def below(self, limit):
+        # Python promises the same sequence in later versions for random() alone.
+        return int(self.source.random() * limit)
+
+    def between(self, lowest, highest):
+        return lowest + self.below(highest - lowest + 1)
+
+    def one_of(self, things):
+        return things[self.below(len(things))]
+
+
+class SimulatedController:
+    """A controller that keeps the rules. Its keypad is off and stays so, for no panel event comes."""
+
+    def __init__(self, access, chance):
+        self.access = access
+        self.phase = "Idle"
+        self.flow = True
+        self.changed = False
+        self.batch_reset = False
+        self.power_fail = True
+        self.recipe = chance.one_of(RECIPES)
+        self.raw_volume = chance.between(0, HIGHEST_RAW_VOLUME)
+        # So near to the highest that the number starts again from 1 on the way.
+        self.batch_number = HIGHEST_BATCH_NUMBER - 20
+        self.values = {code: chance.between(*PARAMETER_RANGES[code]) for code in PARAMETERS}
+        self.levels = {code: chance.between(0, HIGHEST_LEVEL) for code in PARAMETERS}
+
+    def answer(self, request):
+        """The text of the reply; a request that is accepted is carried out."""
+        code, rest = request[:2], request[2:]
+        if code not in FORMS:
+            return "NO00"
+        if not re.fullmatch(FORMS[code], rest):
+            return "NO01"
+        words = rest.split()
+        return self.refusal(code, words) or self.shown(code, words) or self.carried_out(code, words)
+
+    def refusal(self, code, words):
+        """The first refusal that applies, or nothing. NO02 is not among them, the keypad being off."""
+        if (code, words) == ("RE", ["PF"]) or (code == "RT" and words != ["R"]):
+            return "NO08"
+        if code in ("PV", "XV", "PC", "XC") and words[0] not in PARAMETER_RANGES:
+            return "NO04"
+        if code == "NR" and int(words[0]) not in RECIPES:
+            return "NO30"
+        if code == "PC":
+            lowest, highest = PARAMETER_RANGES[words[0]]
+            if not lowest <= int(words[1]) <= highest:
+                return "NO06"
+        if code == "XC" and int(words[1]) > HIGHEST_LEVEL:
+            return "NO06"
+        if code == "SB" and int(words[0]) == 0:
+            return "NO06"
+        if code in ("PC", "XC") and self.levels[words[0]] > self.access:
+            return "NO07"
+        if code == "XC" and int(words[1]) > self.access:
+            return "NO07"
+        if code in PHASES_NEEDED and self.phase not in PHASES_NEEDED[code]:
+            return "NO05"
+        return None
+
+    def shown(self, code, words):
+        """The reply to a request that only asks, or nothing."""
+        if code == "EQ":
+            return self.status_characters()
+        if code == "RS":
+            return self.status_codes()
+        if code == "TN":
+            return f"TN {self.batch_number:04}"
+        if code == "RR":
+            return f"RR {self.recipe:02}"
+        if code == "RC":
+            return f"RC {self.recipe:02} {self.values[f'0{self.recipe}2']:08}"
+        if code == "RT":
+            return f"RT R {self.raw_volume:08}"
+        if code == "PV":
+            return f"PV {words[0]} {self.values[words[0]]:08}"
+        if code == "XV":
+            return f"XV {words[0]} {self.levels[words[0]]}"
+        return None
+
+    def status_characters(self):
+        running = self.phase == "Running"
+        begun = self.phase in ("Running", "Stopped")
+        values = [
+            4 * running + 2 * self.flow + (begun or self.phase == "Set"),
+            8 * begun + 4 * (self.phase == "Done") + 2 * self.batch_reset,
+            0,
+            8 * self.changed + self.power_fail,
+            0,
+            0,
+        ]
+        return "".join(chr(0x30 + value) for value in values)
+
+    def status_codes(self):
+        codes = [
+            ("FL", self.flow),
+            ("BD", self.batch_reset),
+            ("PC", self.changed),
+            ("PF", self.power_fail),
+            ("TD", self.phase == "Done"),
+            ("TP", self.phase in ("Running", "Stopped")),
+            ("RL", self.phase == "Running"),
+        ]
+        return "RS " + "".join(f"{code} " for code, on in codes if on)
+
+    def carried_out(self, code, words):
+        if code == "PC":
+            self.values[words[0]] = int(words[1])
+            self.changed = True
+        elif code == "XC":
+            self.levels[words[0]] = int(words[1])
+        elif code == "NR":
+            self.recipe = int(words[0])
+        elif code == "SB":
+            self.phase = "Set"
+            self.raw_volume = 0
+            self.batch_reset = True
+            self.batch_number = self.batch_number % HIGHEST_BATCH_NUMBER + 1
+        elif code == "SA":
+            self.phase = "Running"
+        elif code == "SP":
+            self.phase = "Stopped"
+        elif code == "ET":
+            self.phase = "Idle"
+        elif words == ["BD"]:
+            self.batch_reset = False
+        else:
+            self.changed = False
+        return "OK"
+
+
+# How often the simulated host sends each code, against the others. Short exchanges are frequent, so
+# that many go into one recording; phases are passed through often, so that most writes come by.
+HOW_OFTEN = {
+    "EQ": 14,
+    "RS": 3,
+    "TN": 4,
+    "RR": 5,
+    "RC": 3,
+    "RT": 2,
+    "PV": 4,
+    "XV": 3,
+    "PC": 5,
+    "XC": 3,
+    "NR": 4,
+    "SB": 11,
+    "SA": 14,
+    "SP": 11,
+    "ET": 13,
+    "RE": 5,
+    "QQ": 1,
+}
+SENT_CODES = [code for code, times in HOW_OFTEN.items() for _ in range(times)]
+
+
+def simulated_request(chance):
+    """A request by chance; one in some dozens breaks a rule of form or range."""
+    code = chance.one_of(SENT_CODES)
+    parameter = chance.one_of(PARAMETERS) if chance.below(20) else "084"
+    if code == "RT":
+        return "RT " + chance.one_of("RRRRGNPM")
+    if code in ("PV", "XV"):
+        return f"{code} {parameter}"
+    if code == "PC":
+        lowest, highest = PARAMETER_RANGES.get(parameter, (0, 1))
+        value = chance.between(lowest, highest + highest // 10)
+        return f"PC {parameter} {value:0{chance.between(1, 8)}}"
+    if code == "XC":
+        return f"XC {parameter} {chance.below(5)}"
+    if code == "NR":
+        return f"NR {chance.below(10):02}" if chance.below(20) else "NR 3"
+    if code == "SB":
+        return f"SB {chance.below(10) * chance.below(10)}"
+    if code == "RE":
+        return "RE " + chance.one_of(["BD", "BD", "PC", "PC", "PC", "PF", "TD"])
+    return code if chance.below(40) else code + " "
+
+
+def long_honest():
+    """Thousands of exchanges with a controller that keeps the rules, up to the longest recording."""
+    address, access, longest = 23, 2, 65_535
+    chance = Chance(417)
+    controller = SimulatedController(access, chance)
+    exchanges = []
+    length = HEADER_LENGTH
+    while True:
+        kind = chance.below(20)
+        if kind == 0:
+            # The host looks for a controller at another address, and there is none.
+            exchange = (framed(chance.between(24, 99), "EQ"), SILENCE)
+        elif kind == 1:
+            # The pad arrived as another byte: whatever was asked meets silence and has no effect.
+            frame = framed(address, simulated_request(chance))
+            exchange = (frame[:-1] + bytes([PAD - 1]), SILENCE)
+        else:
+            request = simulated_request(chance)
+            exchange = (request, controller.answer(request))
+        length += len(exchange_bytes(address, *exchange))
+        if length >= longest:
+            return recording(address, access, exchanges)
+        exchanges.append(exchange)
+
+
+# The files that are not recordings
+
+
+def cut_by_the_recorder():
+    """Monday's, ending within the reply that follows the refuted one, its length field right."""
+    kept = len(MONDAY_BEFORE_THE_FAULT) + 2
+    whole = recording(12, 2, MONDAY_DRUM_CHANGE[:kept])[:-10]
+    return header(len(whole), 12, 2) + whole[HEADER_LENGTH:]
+
+
+def length_field_wrong():
+    """The day without a fault, whose last exchange was lost: the length field still counts it."""
+    whole = recording(7, 2, HONEST_DAY)
+    return whole[: -len(exchange_bytes(7, *HONEST_DAY[-1]))]
+
+
+def every_recording():
+    return {
+        "another_recipes_factor": recording(1, 2, ANOTHER_RECIPES_FACTOR),
+        "bench_old_factor": recording(1, 2, BENCH_OLD_FACTOR),
+        "bench_other_recipe": recording(1, 2, BENCH_OTHER_RECIPE),
+        "check_character_02": recording(1, 2, CHECK_CHARACTER_02),
+        "cut_by_the_recorder": cut_by_the_recorder(),
+        "honest_day": recording(7, 2, HONEST_DAY),
+        "keypad_then_phase": recording(1, 2, KEYPAD_THEN_PHASE),
+        "length_field_wrong": length_field_wrong(),
+        "level_stays_open": recording(1, 2, LEVEL_STAYS_OPEN),
+        "long_honest": long_honest(),
+        "monday_drum_change": recording(12, 2, MONDAY_DRUM_CHANGE),
+        "no_exchange": recording(1, 2, []),
+        "no_phase_left": recording(1, 2, NO_PHASE_LEFT),
+        "running_with_keypad_on": recording(1, 2, RUNNING_WITH_KEYPAD_ON),
+        "version_2": recording(1, 2, BENCH_OTHER_RECIPE, version=2),
+        "wrong_frame_answered": recording(1, 2, WRONG_FRAME_ANSWERED),
+        "wrong_frame_silence": recording(1, 2, WRONG_FRAME_SILENCE),
+    }
+
+
+def differences(made):
+    """A line for each file that is missing, not as made here, or not made here at all."""
+    present = {path.stem: path.read_bytes() for path in FOLDER.glob("*.recording")}
+    for name in sorted(made.keys() | present.keys()):
+        if name not in present:
+            yield f"examples/{name}.recording: missing"
+        elif name not in made:
+            yield f"examples/{name}.recording: not made by scripts/examples.py"
+        elif made[name] != present[name]:
+            yield f"examples/{name}.recording: differs from what scripts/examples.py makes"
+
+
+def main():
+    arguments = argparse.ArgumentParser(description="Makes the example recordings.")
+    arguments.add_argument(
+        "--check", action="store_true", help="only compare them with the files present"
+    )
+    made = every_recording()
+    if arguments.parse_args().check:
+        lines = list(differences(made))
+        for line in lines:
+            print(line)
+        return 1 if lines else 0
+    FOLDER.mkdir(exist_ok=True)
+    for name, content in made.items():
+        (FOLDER / f"{name}.recording").write_bytes(content)
+    return 0
+
+
+if __name__ == "__main__":
+    sys.exit(main())
