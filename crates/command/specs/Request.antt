@@ -193,12 +193,9 @@ guarded (g ∷ gs) r = pick (g .refuses (get (g .field) r)) (NO (g .refusal)) (g
 unfoldable pub verdictFor : Request → Record → Verdict
 verdictFor q r = andThen (byItself q) (guarded (guards (get access r) q) r)
 
--- PC and XC by place
+-- PC by place
 unfoldable pub valueVerdict : ℕ → ℕ → Record → Verdict
 valueVerdict i n r = andThen (valueByItself i n) (guarded (valueGuards (get access r) i) r)
-
-unfoldable pub levelVerdict : ℕ → ℕ → Record → Verdict
-levelVerdict i l r = andThen (levelByItself i l) (guarded (levelGuards (get access r) i l) r)
 
 -- ---- what an accepted request shows and changes
 abbrev pub shows : Request → Record → List ℕ

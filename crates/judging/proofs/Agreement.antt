@@ -21,7 +21,7 @@ use Rattle.frame.specs.Frame.{allText, namesUnit, addressIn, frameOf, textIn, w
 use Rattle.frame.specs.Numbers.{accepted, unit}
 use Rattle.frame.specs.Answer.{locateOf, readOf, addressOf}
 use Rattle.frame.proofs.Laws.{over-take, found, found-located, Taken, taken, Named, named, named-addressed}
-use Rattle.frame.proofs.RoundTrip.{frame-located, reframed}
+use Rattle.frame.proofs.RoundTrip.{reframed}
 use Rattle.command.specs.Word.{digits}
 use Rattle.command.specs.Answer.{verdict, replyFor, replyText, recordAfter}
 use Rattle.command.specs.Request.{requestOf, verdictFor, replyTo, recordTo}
@@ -37,13 +37,6 @@ use Rattle.recording.specs.Statement.{called, Agrees, next}
 -- what is located is the frame of its text
 located-frame : (f u : List ℕ) (n : ℕ) → locateOf Minicomputer f ≡ accepted n → textIn Minicomputer f ≡ u → f ≡ frameOf Minicomputer u
 located-frame f u n e t = sym (reframed Minicomputer f n (found Minicomputer f n e)) ∙ ap (frameOf Minicomputer) t
-
--- a frame of a legal text is exactly what is located and has that text
-pub legal-exactly : (f u : List ℕ) → 4 ≤ length u → length u ≤ 60 → allText u ≡ true
-    → f ≡ frameOf Minicomputer u ↔ (locateOf Minicomputer f ≡ accepted (length u)) × (textIn Minicomputer f ≡ u)
-legal-exactly f u low high text =
-    let h = frame-located Minicomputer u low high text in
-    (λ e. (ap (locateOf Minicomputer) e ∙ h .0, ap (textIn Minicomputer) e ∙ h .1), λ t. located-frame f u (length u) (t .0) (t .1))
 
 -- ---- the texts of an exchange's request and of its reply
 abbrev pub asked : Exchange → List ℕ

@@ -146,7 +146,7 @@ module _ (s : List ℕ) (a c n : ℕ) (k : Knowledge) (at m : ℕ) (x : Next) (j
       sym (j .all ∙ all-passed a c (m + passing a c k (j .rest)) n p)
 
   -- a recording that is well-formed has no cut exchange
-  pub no-cut : x ≡ next.Cut → judged (fits n) ≡ judgementOf s
+  pub no-cut : x ≡ next.Cut → refused 5 ≡ judgementOf s
   no-cut e = let h : whole (j .rest) ≡ cut = by-next next.Cut e in absurd (never (cc))
 
   module _ (p : Spans) (e : x ≡ next.Exchange p) where

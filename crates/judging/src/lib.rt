@@ -83,8 +83,9 @@ fn judge_exchanges(s: &[u8], address: u8, access: u8, count: usize) -> Judgement
             Next::End => {
                 return Judgement::Fits(count);
             }
+            // never, since the recording is well-formed
             Next::Cut => {
-                return Judgement::Fits(count);
+                return Judgement::Refused(Refusal::Cut);
             }
             Next::Exchange(spans) => {
                 let request = spans.request;

@@ -3,6 +3,7 @@
 use Prim.Native.Nat.{ℕ, zero, suc, _+_, _*_, _/_, _%_}
 use mathlib.Core.Bool.{Bool, true, false, _&&_, _||_}
 use lib.Dec.{eqb}
+use Rattle.state.specs.Parameter.{recipes}
 use Rattle.state.specs.Field.{Field, address, access, phase, keypad, flow, changed, reset, powerfail, recipe, preset, raw, number, value, level, fieldRange, flagNumber}
 use Rattle.state.specs.Valid.{within}
 
@@ -36,9 +37,13 @@ unfoldable pub maskFrom : (ℕ → Bool) → ℕ → ℕ → ℕ
 maskFrom p zero i = 0
 maskFrom p (suc n) i = flagNumber (p i) + 2 * maskFrom p n (i + 1)
 
--- the numbers in a field's range that pass a test; no such field goes beyond 8
+-- the numbers that pass a test; no field with a mask goes beyond the last recipe
+abbrev pub maskOf : (ℕ → Bool) → ℕ
+maskOf p = maskFrom p (recipes + 1) 0
+
+-- those in a field's range
 abbrev pub maskIn : Field → (ℕ → Bool) → ℕ
-maskIn f p = maskFrom (λ n. within (fieldRange f) n && p n) 9 0
+maskIn f p = maskOf (λ n. within (fieldRange f) n && p n)
 
 -- ---- single: a number that no field can hold stands for any
 abbrev pub anyNumber : ℕ

@@ -1,6 +1,7 @@
 // What is known of a controller's record: one set for each field, as a code at the field's position.
 use base::is_between;
 use state::PARAMETERS;
+use state::RECIPES;
 use state::Range;
 ghost use mathlib.Core.Path.{_≡_};
 ghost use Rattle.knowledge.specs.Knowledge.{codeAt, dead, recoded, narrowed, told, advanced, start};
@@ -45,6 +46,9 @@ pub const ALL_PHASES: u32 = 0x1f;
 pub const OFF_OR_ON: u32 = 0x3;
 
 pub const ALL_RECIPES: u32 = 0x1fe;
+
+// The last recipe: no field with a set goes beyond it.
+pub const LAST_RECIPE: u32 = RECIPES as u32;
 
 pub const ALL_LEVELS: u32 = 0xf;
 

@@ -9,6 +9,7 @@ use knowledge::DONE;
 use knowledge::IDLE;
 use knowledge::KEYPAD;
 use knowledge::Knowledge;
+use knowledge::LAST_RECIPE;
 use knowledge::LEVELS;
 use knowledge::OFF;
 use knowledge::ON;
@@ -230,7 +231,7 @@ fn move_on(k: Knowledge, request: Request) -> Knowledge
             let only = alone(0, 3, level);
             k.put(LEVELS + offset(code), only)
         }
-        Request::SelectRecipe(recipe) => k.put(RECIPE, alone(1, 8, recipe)),
+        Request::SelectRecipe(recipe) => k.put(RECIPE, alone(1, LAST_RECIPE, recipe)),
         Request::SetBatch(preset) => {
             let next = k.advance();
             next.put(RESET, ON)

@@ -18,7 +18,7 @@ use Rattle.command.specs.Word.{space, equal}
 use Rattle.command.specs.Commands.{factorPlace, word, OK}
 use Rattle.command.specs.Request.{placeFor}
 use Rattle.knowledge.specs.declared.Knowledge.{Knowledge}
-use Rattle.knowledge.specs.Sets.{Kind, several, single, kindOf, maskFrom, maskIn}
+use Rattle.knowledge.specs.Sets.{Kind, several, single, kindOf, maskOf, maskIn}
 use Rattle.knowledge.specs.Knowledge.{dead, narrowed, told, passing}
 use Rattle.showing.specs.declared.Walk.{Walk}
 use Rattle.showing.specs.Heard.{numberBehind, label, rawLabel, parameterLabel, characterAt, lit, statusFormed}
@@ -40,7 +40,7 @@ shownAs b f p = record { field = f; holds = λ n. pick b (p n) (not (p n)) }
 
 -- a field holds the number that is shown
 abbrev pub narrowedBy : ℕ → Range → Digits → Knowledge → Knowledge
-narrowedBy p range (digitsRead.Number n) k = narrowed p (maskFrom (λ i. within range i && eqb i n) 9 0) k
+narrowedBy p range (digitsRead.Number n) k = narrowed p (maskOf (λ i. within range i && eqb i n)) k
 narrowedBy p range digitsRead.Nothing k = dead k
 
 abbrev pub toldBy : ℕ → Range → Digits → Knowledge → Knowledge

@@ -9,6 +9,7 @@ use knowledge::DONE;
 use knowledge::FLOW;
 use knowledge::KEYPAD;
 use knowledge::Knowledge;
+use knowledge::LAST_RECIPE;
 use knowledge::LEVELS;
 use knowledge::NUMBER;
 use knowledge::OFF;
@@ -32,7 +33,7 @@ ghost use Rattle.base.specs.Test.{pick, between};
 ghost use Rattle.state.specs.Parameter.{parameterCount};
 ghost use Rattle.command.specs.Word.{equal};
 ghost use Rattle.command.specs.Request.{placeFor};
-ghost use Rattle.knowledge.specs.Sets.{maskFrom};
+ghost use Rattle.knowledge.specs.Sets.{maskOf};
 ghost use Rattle.knowledge.specs.Knowledge.{narrowed};
 ghost use Rattle.showing.specs.Heard.{numberBehind, refusalIn, parameterLabel, lit, statusFormed};
 ghost use Rattle.showing.specs.Shown.{toldBy, narrowedBy, compositionShown, allHold, firstTests, secondTests, fourthTests, statusShown, codes, codeShown, codesShown, listShown, okShown, shown};
@@ -41,9 +42,9 @@ const RUNNING_OR_STOPPED: u32 = RUNNING + STOPPED;
 
 const BEGUN: u32 = SET + RUNNING + STOPPED;
 
-// The set of n alone, if it is one of low to high; for numbers up to 8.
+// The set of n alone, if it is one of low to high, for numbers up to the last recipe.
 pub fn alone(low: u32, high: u32, n: u32) -> u32
-    ensures { λ m. ⌜ m ≡ maskFrom (λ i. between low high i && eqb i n) 9 0 ⌝ }
+    ensures { λ m. ⌜ m ≡ maskOf (λ i. between low high i && eqb i n) ⌝ }
 {
     if !is_between(low, high, n) {
         return 0;
@@ -130,12 +131,12 @@ fn show_composition(k: Knowledge, recipe: Digits, factor: Digits) -> Knowledge
     let Digits::Number(n) = recipe else {
         return k.refuted();
     };
-    if !is_between(1, state::RECIPES as u32, n) {
+    if !is_between(1, LAST_RECIPE, n) {
         return k.refuted();
     }
     let place = (3 * (n - 1) + 1) as usize;
     show_number(
-        k.narrow(RECIPE, alone(1, 8, n)),
+        k.narrow(RECIPE, alone(1, LAST_RECIPE, n)),
         VALUES + 2 * place,
         state::range_at(place),
         factor,
@@ -350,7 +351,7 @@ pub fn show(k: Knowledge, request: Request, s: &[u8]) -> Knowledge
         Request::Recipe => {
             let range = Range {
                 low: 1,
-                high: state::RECIPES as u32,
+                high: LAST_RECIPE,
             };
             show_small(k, RECIPE, range, number_behind(s, b"RR ", 2))
         }

@@ -50,9 +50,6 @@ show-number-requires c κs = search needs
 enum-told-7 : tie.Need-enum-told-7
 enum-told-7 c = search needs
 
-cast-t19 : tie.Need-cast-t19
-cast-t19 c = search needs
-
 slice-aggregate-number-behind-2 : tie.Need-slice-aggregate-number-behind-2
 slice-aggregate-number-behind-2 c = search needs
 
@@ -281,7 +278,6 @@ show-spec =
     number-behind-requires
     show-number-requires
     enum-told-7
-    cast-t19
     slice-aggregate-number-behind-2
     number-behind-requires-2
     show-small-requires

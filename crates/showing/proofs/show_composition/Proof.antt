@@ -18,9 +18,6 @@ refuted-requires c κs = search needs
 returns : tie.Need-returns
 returns c = search recipe-read
 
-cast-is-between : tie.Need-cast-is-between
-cast-is-between c = search needs
-
 is-between-requires : tie.Need-is-between-requires
 is-between-requires c κs = search needs
 
@@ -71,7 +68,6 @@ show-composition-spec =
     enum-told
     refuted-requires
     returns
-    cast-is-between
     is-between-requires
     refuted-requires-2
     returns-2
