@@ -8,6 +8,7 @@
  *     200 + n   stored form refused, Kn
  *     300       no such kind or event
  *     400 + n   host side refused, Hn
+ *     500 + n   recording refused, Jn
  * A refusal or silence leaves every lent byte as it was, unless said otherwise. */
 #ifndef KHUYAPESH_H
 #define KHUYAPESH_H
