@@ -210,6 +210,13 @@ code-beyond i h = sym (List·getD-eq-default (map codeOf (parametersFor recipes)
 pub range-given-recipe : (i : ℕ) → i < 3 * recipes → range (getD (0 ∷ 8000 ∷ 1 ∷ []) (i % 3) 0) (getD (10000 ∷ 12000 ∷ 9999 ∷ []) (i % 3) 0) ≡ rangeAt i
 range-given-recipe i h = sym (range-in-list i (omega arith) ∙ (ap rangeOf (at-recipe recipes i h) ∙ recipe-range (i / 3 + 1) (i % 3) (omega arith)))
 
+-- each recipe has the ranges of the first
+pub range-repeats : (i u : ℕ) → i < recipes → u < 3 → rangeAt (3 * i + u) ≡ rangeAt u
+range-repeats i u h l =
+    let e : (3 * i + u) % 3 ≡ u % 3 = omega arith in
+    sym (range-given-recipe (3 * i + u) (omega arith)) ∙
+    (ap (λ (v : ℕ). range (getD (0 ∷ 8000 ∷ 1 ∷ []) v 0) (getD (10000 ∷ 12000 ∷ 9999 ∷ []) v 0)) e ∙ range-given-recipe u (omega arith))
+
 -- the tables of the system's ranges are those of its parameters
 pub range-given-system : (i : ℕ) → 3 * recipes ≤ i → i < parameterCount
     → range (getD (0 ∷ 0 ∷ 0 ∷ 1 ∷ 0 ∷ 0 ∷ 1 ∷ 0 ∷ []) (i - 3 * recipes) 0) (getD (99 ∷ 999 ∷ 9999 ∷ 9999 ∷ 3 ∷ 1 ∷ 99999 ∷ 9 ∷ []) (i - 3 * recipes) 0) ≡ rangeAt i

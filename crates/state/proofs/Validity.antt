@@ -1,7 +1,7 @@
 -- Validity, field by field. Assumes nothing.
-use Prim.Native.Nat.{ℕ, zero, suc, _+_, _≤_, _<_}
+use Prim.Native.Nat.{ℕ, zero, suc, _+_, _*_, _≤_, _<_}
 use mathlib.Core.Bool.{Bool, true, false, not, _&&_, false≢true}
-use mathlib.Core.Path.{_≡_, refl, sym, ap, _∙_}
+use mathlib.Core.Path.{_≡_, refl, sym, ap, _∙_, subst}
 use mathlib.Core.List.{List, [], _∷_, _++_}
 use mathlib.Core.Logic.{⊎-elim}
 use native.Mathlib.Nat.{eq-or-lt-of-le, not-suc-le-zero, le-of-suc-le-suc}
@@ -13,11 +13,13 @@ use borrow.Author.Tests.{eq-eqb, eqb-true, not-true, not-false}
 use Rattle.state.specs.declared.Phase.{Phase}
 use Rattle.state.specs.declared.Phase.the-variants.{Idle, Set, Running, Stopped, Done}
 use Rattle.state.specs.declared.Record.{Record}
-use Rattle.base.specs.Test.{between}
-use Rattle.state.specs.Parameter.{recipes, parameterCount}
+use Rattle.state.specs.declared.Range.{Range}
+use Rattle.base.specs.Test.{between, allBetween}
+use Rattle.state.specs.Parameter.{recipes, parameterCount, rangeAt}
 use Rattle.state.specs.Field.{Field, address, value, level, get, fieldRange, fieldsFor, parameterFields, phaseNumber, flagNumber, off, on}
 use Rattle.state.specs.Valid.{within, allIn, fullLength, valid}
 use Rattle.base.proofs.Tests.{and-yes, and-left, and-right, between-yes, between-low, between-high}
+use Rattle.state.proofs.Parameters.{range-repeats}
 
 pub flag-in : (b : Bool) → between off on (flagNumber b) ≡ true
 flag-in true = refl
@@ -112,10 +114,6 @@ pairs-more r i = rw add-one (all-append r (parameterFields i) (value i ∷ level
     last true false = refl
     last false b = refl
 
--- one pair more
-pub pairs-yes : (r : Record) (i : ℕ) (b : Bool) → allIn r (parameterFields i) ≡ true → b ≡ pairIn r i → not b ≡ false → allIn r (parameterFields (i + 1)) ≡ true
-pairs-yes r i b h e n = pairs-more r i ∙ and-yes (allIn r (parameterFields i)) (pairIn r i) h (sym e ∙ not-false b n)
-
 -- each pair is in its ranges
 pub pairs-at : (r : Record) (n i : ℕ) → allIn r (parameterFields n) ≡ true → i < n → pairIn r i ≡ true
 pairs-at r zero i h l = absurd (omega arith)
@@ -153,16 +151,120 @@ valid-tell r h =
 pub not-valid-scalars : (r : Record) (b : Bool) → b ≡ allIn r (fieldsFor 0) → not b ≡ true → false ≡ valid r
 not-valid-scalars r b e n = decided (valid r) (λ h. false≢true (sym (not-true b n) ∙ (e ∙ scalars-yes r (valid-tell r h .scalars))))
 
-pub not-valid-pair : (r : Record) (i : ℕ) (b : Bool) → b ≡ pairIn r i → not b ≡ true → i < parameterCount → false ≡ valid r
-not-valid-pair r i b e n l = decided (valid r) (λ h. false≢true (sym (not-true b n) ∙ (e ∙ valid-tell r h .pairs i l)))
+-- ---- the values and the levels of all parameters
+all-between : (low high : ℕ) (s : List ℕ) → ((i : ℕ) → i < length s → between low high (getD s i 0) ≡ true) → allBetween low high s ≡ true
+unfolding allBetween
+all-between low high [] h = refl
+all-between low high (x ∷ s) h = and-yes (between low high x) (allBetween low high s) (h 0 (omega arith)) (all-between low high s (λ i l. h (suc i) (omega arith)))
 
-pub valid-all : (r : Record) (b : Bool) (i : ℕ) → length (r .values) ≡ parameterCount → length (r .levels) ≡ parameterCount
-    → b ≡ allIn r (fieldsFor 0) → not b ≡ false → allIn r (parameterFields i) ≡ true → i ≤ parameterCount → parameterCount ≤ i → true ≡ valid r
+between-at : (low high : ℕ) (s : List ℕ) (i : ℕ) → allBetween low high s ≡ true → i < length s → between low high (getD s i 0) ≡ true
+unfolding allBetween
+between-at low high [] i h l = absurd (not-suc-le-zero l)
+between-at low high (x ∷ s) zero h l = and-left (between low high x) (allBetween low high s) h
+between-at low high (x ∷ s) (suc i) h l = between-at low high s i (and-right (between low high x) (allBetween low high s) h) (le-of-suc-le-suc l)
+
+-- the value at place i
+abbrev pub valueIn : Record → ℕ → Bool
+valueIn r i = within (rangeAt i) (getD (r .values) i 0)
+
+value-valid : (r : Record) → valid r ≡ true → (i : ℕ) → i < parameterCount → valueIn r i ≡ true
+value-valid r h i l = and-left (valueIn r i) _ (valid-tell r h .pairs i l)
+
+-- those of the first n places
+pub record ValuesIn (r : Record) (n : ℕ) : Type 0 where
+  pub each : (i : ℕ) → i < n → valueIn r i ≡ true
+
+-- one place more
+value-more : (r : Record) (p : ℕ) → ValuesIn r p → valueIn r p ≡ true → ValuesIn r (p + 1)
+value-more r p v h =
+    record {
+      each = λ i l.
+          ⊎-elim (λ (q : i ≡ p). ap (valueIn r) q ∙ h) (λ (q : i < p). v .each i q) (eq-or-lt-of-le (omega arith));
+    }
+
+pub values-more : (r : Record) (p : ℕ) (b : Bool) → ValuesIn r p → b ≡ within (rangeAt p) (getD (r .values) p 0) → not b ≡ false → ValuesIn r (p + 1)
+values-more r p b v e n = value-more r p v (sym e ∙ not-false b n)
+
+-- those of the first n recipes
+pub record RecipesIn (r : Record) (n : ℕ) : Type 0 where
+  pub places : ValuesIn r (3 * n)
+
+pub recipes-none : (r : Record) → RecipesIn r 0
+recipes-none r = record { places = record { each = λ i h. absurd (omega arith) } }
+
+pub recipes-all : (r : Record) (i : ℕ) → recipes ≤ i → RecipesIn r i → ValuesIn r (3 * recipes)
+recipes-all r i h v = record { each = λ j l. v .places .each j (omega arith) }
+
+-- three tests in turn
+module _ (a x : Bool) (e : a ≡ x) where
+  pub first-no : (y : Bool) → not a ≡ true → false ≡ (x && y)
+  first-no y n = simp (sym e ∙ not-true a n)
+
+  module _ (n : not a ≡ false) (b y : Bool) (f : b ≡ y) where
+    pub second-no : (z : Bool) → not b ≡ true → false ≡ (x && (y && z))
+    second-no z m = simp (sym e ∙ not-false a n, sym f ∙ not-true b m)
+
+    pub third-tells : (c z : Bool) → not b ≡ false → c ≡ z → c ≡ (x && (y && z))
+    third-tells c z m g = g ∙ simp (sym e ∙ not-false a n, sym f ∙ not-false b m)
+
+-- the three values of a recipe, by the ranges of the first
+module _ (r : Record) (i : ℕ) (b : Bool) (below : i < recipes)
+    (e : b ≡ (within (rangeAt 0) (getD (r .values) (3 * i) 0) && (within (rangeAt 1) (getD (r .values) (3 * i + 1) 0) && within (rangeAt 2) (getD (r .values) (3 * i + 2) 0)))) where
+  is-first : (u : ℕ) → u < 3 → within (rangeAt u) (getD (r .values) (3 * i + u) 0) ≡ valueIn r (3 * i + u)
+  is-first u l = ap (λ (g : Range). within g (getD (r .values) (3 * i + u) 0)) (sym (range-repeats i u below l))
+
+  by-values : b ≡ (valueIn r (3 * i) && (valueIn r (3 * i + 1) && valueIn r (3 * i + 2)))
+  by-values =
+      let z : 3 * i + 0 ≡ 3 * i = omega arith in
+      let s : within (rangeAt 0) (getD (r .values) (3 * i) 0) ≡ valueIn r (3 * i) = subst (λ (j : ℕ). within (rangeAt 0) (getD (r .values) j 0) ≡ valueIn r j) z (is-first 0 (omega arith)) in
+      let f = is-first 1 (omega arith) in
+      let l = is-first 2 (omega arith) in
+      e ∙ simp (s, f, l)
+
+  pub recipe-more : not b ≡ false → RecipesIn r i → RecipesIn r (i + 1)
+  recipe-more n v =
+      let all : (valueIn r (3 * i) && (valueIn r (3 * i + 1) && valueIn r (3 * i + 2))) ≡ true = sym by-values ∙ not-false b n in
+      let rest : (valueIn r (3 * i + 1) && valueIn r (3 * i + 2)) ≡ true = and-right (valueIn r (3 * i)) _ all in
+      let o : 3 * i + 1 + 1 ≡ 3 * i + 2 = omega arith in
+      let t : 3 * i + 2 + 1 ≡ 3 * (i + 1) = omega arith in
+      let one : ValuesIn r (3 * i + 1) = value-more r (3 * i) (v .places) (and-left (valueIn r (3 * i)) _ all) in
+      let two : ValuesIn r (3 * i + 2) = subst (ValuesIn r) o (value-more r (3 * i + 1) one (and-left (valueIn r (3 * i + 1)) _ rest)) in
+      record { places = subst (ValuesIn r) t (value-more r (3 * i + 2) two (and-right (valueIn r (3 * i + 1)) _ rest)) }
+
+  pub not-valid-recipe : not b ≡ true → false ≡ valid r
+  not-valid-recipe n =
+      decided (valid r)
+      (λ h.
+      let at : (j : ℕ) → j < parameterCount → valueIn r j ≡ true = value-valid r h in
+      false≢true (sym (not-true b n) ∙ (by-values ∙ and-yes (valueIn r (3 * i)) _ (at (3 * i) (omega arith))
+      (and-yes (valueIn r (3 * i + 1)) _ (at (3 * i + 1) (omega arith)) (at (3 * i + 2) (omega arith))))))
+
+pub not-valid-value : (r : Record) (p : ℕ) (b : Bool) → b ≡ within (rangeAt p) (getD (r .values) p 0) → not b ≡ true → p < parameterCount → false ≡ valid r
+not-valid-value r p b e n l = decided (valid r) (λ h. false≢true (sym (not-true b n) ∙ (e ∙ value-valid r h p l)))
+
+pub not-valid-levels : (r : Record) (b : Bool) → b ≡ allBetween 0 3 (r .levels) → not b ≡ true → false ≡ valid r
+not-valid-levels r b e n =
+    decided (valid r)
+    (λ h.
+    let l = valid-tell r h .levels-length in
+    false≢true (sym (not-true b n) ∙ (e ∙ all-between 0 3 (r .levels) (λ i q. and-right (valueIn r i) _ (valid-tell r h .pairs i (omega arith))))))
+
+-- the parameters' fields, by values and levels
+pairs-all : (r : Record) (n : ℕ) → ValuesIn r n → n ≤ length (r .levels) → allBetween 0 3 (r .levels) ≡ true → allIn r (parameterFields n) ≡ true
+unfolding allIn
+pairs-all r zero v l h = refl
+pairs-all r (suc n) v l h =
+    rw add-one at (pairs-more r n) ∙ and-yes (allIn r (parameterFields n)) (pairIn r n)
+    (pairs-all r n (record { each = λ i q. v .each i (omega arith) }) (omega arith) h)
+    (and-yes (valueIn r n) _ (v .each n (omega arith)) (between-at 0 3 (r .levels) n h (omega arith)))
+
+pub valid-all : (r : Record) (a b : Bool) (p : ℕ) → length (r .values) ≡ parameterCount → length (r .levels) ≡ parameterCount
+    → a ≡ allIn r (fieldsFor 0) → not a ≡ false → b ≡ allBetween 0 3 (r .levels) → not b ≡ false → ValuesIn r p → parameterCount ≤ p → true ≡ valid r
 unfolding valid
-valid-all r b i v l e n h p q =
-    let all : parameterCount ≡ i = omega arith in
+valid-all r a b p v l e n f m h q =
+    let values : ValuesIn r parameterCount = record { each = λ i j. h .each i (omega arith) } in
     sym
     (and-yes (fullLength r) (allIn r (fieldsFor parameterCount))
     (and-yes (eqb (length (r .values)) parameterCount) (eqb (length (r .levels)) parameterCount) (eq-eqb _ _ v) (eq-eqb _ _ l))
-    (fields-split r parameterCount ∙ and-yes (allIn r (fieldsFor 0)) (allIn r (parameterFields parameterCount)) (sym e ∙ not-false b n)
-    (ap (λ (k : ℕ). allIn r (parameterFields k)) all ∙ h)))
+    (fields-split r parameterCount ∙ and-yes (allIn r (fieldsFor 0)) (allIn r (parameterFields parameterCount)) (sym e ∙ not-false a n)
+    (pairs-all r parameterCount values (omega arith) (sym f ∙ not-false b m))))

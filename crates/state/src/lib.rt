@@ -3,7 +3,7 @@ ghost use mathlib.Core.Path.{_≡_};
 ghost use mathlib.Core.Bool.{_&&_};
 ghost use Prim.Native.Nat.{_%_};
 ghost use Rattle.state.specs.Parameter.{codeAt, rangeAt, placeOf};
-ghost use Rattle.state.specs.Field.{Field, put, phaseNumber, fieldRange, fieldsFor};
+ghost use Rattle.state.specs.Field.{Field, put, phaseNumber, fieldsFor};
 ghost use Rattle.state.specs.Valid.{within, allIn, valid};
 ghost use Rattle.state.specs.Event.{after, nextNumber, batchSet, started, halted, ended};
 
@@ -152,12 +152,25 @@ pub fn range_at(place: usize) -> Range
     Range { low: 0, high: 0 }
 }
 
-// The value and the level of the parameter at a place are in their ranges.
-fn parameter_valid(place: usize, value: u32, level: u8) -> bool
-    ensures { λ b. ⌜ b ≡ (within (fieldRange (Field.value place)) value && within (fieldRange (Field.level place)) level) ⌝ }
+// The value is in the range of the parameter at a place.
+fn value_valid(place: usize, value: u32) -> bool
+    ensures { λ b. ⌜ b ≡ within (rangeAt place) value ⌝ }
 {
     let range = range_at(place);
-    base::is_between(range.low, range.high, value) && level <= 3
+    base::is_between(range.low, range.high, value)
+}
+
+// The values of a recipe are in their ranges: each recipe has those of the first.
+fn recipe_valid(share: u32, factor: u32, flow: u32) -> bool
+    ensures { λ b. ⌜ b ≡ (within (rangeAt 0) share && (within (rangeAt 1) factor && within (rangeAt 2) flow)) ⌝ }
+{
+    if !value_valid(0, share) {
+        return false;
+    }
+    if !value_valid(1, factor) {
+        return false;
+    }
+    value_valid(2, flow)
 }
 
 // The batch number after n.
@@ -213,12 +226,27 @@ impl Record {
         if !self.scalars_valid() {
             return false;
         }
+        let levels = self.levels;
+        if !base::all_between(0, 3, &levels) {
+            return false;
+        }
         let mut i = 0;
-        while i < PARAMETERS {
-            if !parameter_valid(i, self.values[i], self.levels[i]) {
+        while i < RECIPES {
+            if !recipe_valid(
+                self.values[3 * i],
+                self.values[3 * i + 1],
+                self.values[3 * i + 2],
+            ) {
                 return false;
             }
             i += 1;
+        }
+        let mut place = 3 * RECIPES;
+        while place < PARAMETERS {
+            if !value_valid(place, self.values[place]) {
+                return false;
+            }
+            place += 1;
         }
         true
     }

@@ -1,26 +1,21 @@
 -- Numbers as bytes and back, and numbers one behind the other, over any list of slots. Assumes nothing.
-use Prim.Native.Nat.{ℕ, zero, suc, _+_, _-_, _*_, _/_, _%_, _^_, _≤_, _<_}
-use mathlib.Core.Bool.{Bool, true, false, _&&_}
+use Prim.Native.Nat.{ℕ, zero, suc, _+_, _*_, _/_, _%_, _^_, _≤_, _<_}
+use mathlib.Core.Bool.{Bool, true, _&&_}
 use mathlib.Core.Path.{_≡_, refl, sym, ap, _∙_}
 use mathlib.Core.List.{List, [], _∷_, _++_, append-assoc, append-nil}
 use mathlib.Core.Logic.{⊎-elim}
-use native.Mathlib.Nat.{pow-suc, pow-le-pow-right}
+use native.Mathlib.Nat.{pow-suc, not-suc-le-zero, le-of-suc-le-suc}
 use native.Mathlib.Numerals.{add-one}
 use native.Mathlib.Omega.{arith}
 use lib.Dec.{ltb}
-use lib.ListN.{List·getD-eq-default, length, getD, take, drop, set, length-append, length-take, length-drop, length-set, take-append-drop, drop-of-length-le}
-use lib.Seq.{getD-take, drop-cons, drop-set-lt, getD-set-same, getD-drop, drop-drop, take-at, drop-at, length-take-le}
+use lib.ListN.{List·getD-eq-default, length, getD, take, drop, set, length-append, length-take, length-drop, take-append-drop}
+use lib.Seq.{getD-take, take-suc, drop-cons, getD-drop, drop-drop, take-at, drop-at, length-take-le, sets, sets-eq}
 use borrow.Author.Tests.{ltb-true}
-use borrow.Rule.Slice.PartMut.{putMid, same-len-mid}
 use Rattle.base.proofs.Tests.{below-or-not, and-left, and-right, between-high}
 use Rattle.stored.specs.declared.Slot.{Slot}
-use Rattle.stored.specs.declared.Number.{Number}
-use Rattle.stored.specs.declared.Number.the-variants.{Inside, Outside}
 use Rattle.stored.specs.Layout.{noSlot}
-use Rattle.stored.specs.Form.{bigEndian, numberFrom, numberOf, pack, unpack, inSlot, allIn, totalWidth, numberRead}
+use Rattle.stored.specs.Form.{bigEndian, numberFrom, numberOf, pack, unpack, inSlot, allIn, totalWidth}
 use Rattle.base.specs.Lists.{over}
-use Rattle.base.specs.Test.{unless}
-use Rattle.stored.proofs.ListLaws.{copied, copied-none, copied-more, copied-all, over-append}
 
 -- ---- one number
 pub big-length : (w n : ℕ) → length (bigEndian w n) ≡ w
@@ -68,225 +63,106 @@ unfolding bigEndian
 big-number w bs e h =
     let q : w ≡ 0 + length bs = omega arith in ap (λ (v : ℕ). bigEndian v (numberOf bs)) q ∙ big-from 0 0 bs h
 
--- ---- writing a number: its low bytes stand behind `left`
-pub put-more : (out all : List ℕ) (rest left : ℕ) → 0 < left → left ≤ length out → bigEndian left rest ++ drop left out ≡ all
-    → bigEndian (left - 1) (rest / 256) ++ drop (left - 1) (set out (left - 1) (rest % 256)) ≡ all
-unfolding bigEndian
-put-more out all rest zero p l e = absurd (omega arith)
-put-more out all rest (suc left) p l e =
-    let q : suc left - 1 ≡ left = omega arith in
-    let h : left < length out = omega arith in
-    let k : left < length (set out left (rest % 256)) = simp length-set h in
-    ap (λ (n : ℕ). bigEndian n (rest / 256) ++ drop n (set out n (rest % 256))) q ∙
-    (ap (λ (t : List ℕ). bigEndian left (rest / 256) ++ t) (drop-cons (set out left (rest % 256)) left 0 k ∙ (ap (λ (b : ℕ). b ∷ drop (suc left) (set out left (rest % 256))) (getD-set-same out left (rest % 256) 0 h) ∙
-    ap (λ (t : List ℕ). rest % 256 ∷ t) (drop-set-lt (suc left) out left (rest % 256) (omega arith)))) ∙
-    (sym (append-assoc (bigEndian left (rest / 256)) (rest % 256 ∷ []) (drop (suc left) out)) ∙ e))
+-- ---- reading two and four bytes
 
-pub put-start : (out : List ℕ) (n : ℕ) → bigEndian (length out) n ++ drop (length out) out ≡ bigEndian (length out) n
-put-start out n =
-    let l : length out ≤ length out = omega arith in
-    ap (λ (t : List ℕ). bigEndian (length out) n ++ t) (drop-of-length-le out l) ∙ append-nil (bigEndian (length out) n)
+-- the bytes from a place on, one by one
+from-place : (bs : List ℕ) (at : ℕ) → at < length bs → drop at bs ≡ getD bs at 0 ∷ drop (at + 1) bs
+from-place bs at h = drop-cons bs at 0 h ∙ ap (λ (j : ℕ). getD bs at 0 ∷ drop j bs) (sym (add-one at))
 
-pub put-end : (out all : List ℕ) (rest left : ℕ) → left ≤ 0 → bigEndian left rest ++ drop left out ≡ all → out ≡ all
-unfolding bigEndian
-put-end out all rest zero l e = e
-put-end out all rest (suc left) l e = absurd (omega arith)
-
--- ---- reading a number: what is left
-pub number-more : (s : List ℕ) (a b n i : ℕ) → i < length s → b ≡ getD s i 0 → numberFrom a (drop i s) ≡ n → numberFrom (a * 256 + b) (drop (i + 1) s) ≡ n
+pub number-one : (bs : List ℕ) (at : ℕ) → at < length bs → numberOf (take 1 (drop at bs)) ≡ getD bs at 0
 unfolding numberFrom
-number-more s a b n i h q e =
-    ap (λ (x : ℕ). numberFrom (a * 256 + x) (drop (i + 1) s)) q ∙
-    (sym (ap (numberFrom a) (drop-cons s i 0 h ∙ ap (λ (j : ℕ). getD s i 0 ∷ drop j s) (sym (add-one i)))) ∙ e)
+number-one bs at h = ap (λ (l : List ℕ). numberOf (take 1 l)) (from-place bs at h) ∙ omega arith
 
-pub number-end : (s : List ℕ) (a n i : ℕ) → length s ≤ i → numberFrom a (drop i s) ≡ n → a ≡ n
+two-bytes : (bs : List ℕ) (at : ℕ) → at + 2 ≤ length bs → take 2 (drop at bs) ≡ getD bs at 0 ∷ getD bs (at + 1) 0 ∷ []
+two-bytes bs at h =
+    ap (take 2) (from-place bs at (omega arith)) ∙ ap (λ (l : List ℕ). getD bs at 0 ∷ take 1 l) (from-place bs (at + 1) (omega arith))
+
+number-two : (bs : List ℕ) (at : ℕ) → at + 2 ≤ length bs → numberOf (take 2 (drop at bs)) ≡ getD bs at 0 * 256 + getD bs (at + 1) 0
 unfolding numberFrom
-number-end s a n i h e = sym (ap (numberFrom a) (drop-of-length-le s h)) ∙ e
+number-two bs at h = ap numberOf (two-bytes bs at h) ∙ omega arith
 
--- so many bytes hold so much
-pub power-more : (a b i : ℕ) → a < 256 ^ i → b < 256 → a * 256 + b < 256 ^ (i + 1)
-power-more a b i h l = rw (add-one, pow-suc) (omega arith)
+-- a number of so many bytes and two more
+number-split : (bs : List ℕ) (at w : ℕ) → at + w + 2 ≤ length bs → numberOf (take (w + 2) (drop at bs)) ≡ numberOf (take w (drop at bs)) * 65536 + numberOf (take 2 (drop (at + w) bs))
+number-split bs at w h =
+    let d = length-drop at bs in
+    let e : w + 2 ≡ suc (suc w) = omega arith in
+    let a : getD (drop at bs) w 0 ≡ getD bs (at + w) 0 = getD-drop at bs w 0 in
+    let i : at + suc w ≡ at + w + 1 = omega arith in
+    let b : getD (drop at bs) (suc w) 0 ≡ getD bs (at + w + 1) 0 = getD-drop at bs (suc w) 0 ∙ ap (λ (j : ℕ). getD bs j 0) i in
+    let t : take (suc (suc w)) (drop at bs) ≡ (take w (drop at bs) ++ (getD (drop at bs) w 0 ∷ [])) ++ (getD (drop at bs) (suc w) 0 ∷ []) =
+    take-suc (drop at bs) (suc w) 0 (omega arith) ∙ ap (λ (l : List ℕ). l ++ (getD (drop at bs) (suc w) 0 ∷ [])) (take-suc (drop at bs) w 0 (omega arith)) in
+    let n : numberOf (take (suc (suc w)) (drop at bs)) ≡ (numberOf (take w (drop at bs)) * 256 + getD (drop at bs) w 0) * 256 + getD (drop at bs) (suc w) 0 =
+    ap numberOf t ∙ (number-append 0 (getD (drop at bs) (suc w) 0) (take w (drop at bs) ++ (getD (drop at bs) w 0 ∷ [])) ∙
+    ap (λ (m : ℕ). m * 256 + getD (drop at bs) (suc w) 0) (number-append 0 (getD (drop at bs) w 0) (take w (drop at bs)))) in
+    let l : numberOf (take 2 (drop (at + w) bs)) ≡ getD bs (at + w) 0 * 256 + getD bs (at + w + 1) 0 = number-two bs (at + w) h in
+    ap (λ (k : ℕ). numberOf (take k (drop at bs))) e ∙ (n ∙ omega arith)
 
-pub power-below : (a i n : ℕ) → a < 256 ^ i → i < n → n ≤ 4 → a < 16777216
-power-below a i n h l m =
-    let k : i ≤ 3 = omega arith in
-    let p : 256 ^ i ≤ 256 ^ 3 = pow-le-pow-right (omega arith) k in
+pub two-read : (bs : List ℕ) (at a b : ℕ) → at + 2 ≤ length bs → a ≡ getD bs at 0 → b ≡ getD bs (at + 1) 0 → a * 256 + b ≡ numberOf (take 2 (drop at bs))
+two-read bs at a b h p q = let n = number-two bs at h in omega arith
+
+pub three-read : (bs : List ℕ) (at a n : ℕ) → at + 3 ≤ length bs → a ≡ getD bs at 0 → n ≡ numberOf (take 2 (drop (at + 1) bs)) → a * 65536 + n ≡ numberOf (take 3 (drop at bs))
+three-read bs at a n h p q =
+    let s = number-split bs at 1 (omega arith) in
+    let o = number-one bs at (omega arith) in
     omega arith
 
--- ---- the slots in turn
-module _ (ss : List Slot) (s : Slot) (c k : ℕ) (long : length ss ≡ c) (below : k < c) (is : s ≡ getD ss k noSlot) where
-  slots-next : drop k ss ≡ s ∷ drop (k + 1) ss
-  slots-next = drop-cons ss k noSlot (omega arith) ∙ (ap (λ (t : Slot). t ∷ drop (suc k) ss) (sym is) ∙ ap (λ (j : ℕ). s ∷ drop j ss) (sym (add-one k)))
+pub four-read : (bs : List ℕ) (at a b : ℕ) → at + 4 ≤ length bs → a ≡ numberOf (take 2 (drop at bs)) → b ≡ numberOf (take 2 (drop (at + 2) bs)) → a * 65536 + b ≡ numberOf (take 4 (drop at bs))
+four-read bs at a b h p q = let s = number-split bs at 2 (omega arith) in omega arith
 
-  width-next : totalWidth (drop k ss) ≡ s .width + totalWidth (drop (k + 1) ss)
-  unfolding totalWidth
-  width-next = ap totalWidth slots-next
+-- ---- storing two and four bytes
 
-  -- the next number ends within the whole, and the rest follows it
-  pub width-within : (at n : ℕ) → at + totalWidth (drop k ss) ≡ totalWidth ss → totalWidth ss ≤ n → at + s .width ≤ n
-  width-within at n e h = omega (arith, width-next)
+-- a list stored behind another that was stored
+pub sets-append : (o : List ℕ) (at : ℕ) (f g : List ℕ) → sets (sets o at f) (at + length f) g ≡ sets o at (f ++ g)
+sets-append o at [] g = let e : at + 0 ≡ at = omega arith in ap (λ (j : ℕ). sets o j g) e
+sets-append o at (b ∷ f) g =
+    let e : at + suc (length f) ≡ suc at + length f = omega arith in
+    ap (λ (j : ℕ). sets (sets (set o at b) (suc at) f) j g) e ∙ sets-append (set o at b) (suc at) f g
 
-  pub width-below : (at n : ℕ) → at + totalWidth (drop k ss) ≡ totalWidth ss → totalWidth ss < n → at + s .width < n
-  width-below at n e h = omega (arith, width-next)
+-- the same, with the place and what stands there given
+pub sets-next : (o z : List ℕ) (at j : ℕ) (f g : List ℕ) → z ≡ sets o at f → at + length f ≡ j → sets z j g ≡ sets o at (f ++ g)
+sets-next o z at j f g e p =
+    ap (λ (l : List ℕ). sets l j g) e ∙ (ap (λ (k : ℕ). sets (sets o at f) k g) (sym p) ∙ sets-append o at f g)
 
-  width-more : (at : ℕ) → at + totalWidth (drop k ss) ≡ totalWidth ss → at + s .width + totalWidth (drop (k + 1) ss) ≡ totalWidth ss
-  width-more at e = omega (arith, width-next)
+-- what is stored from the start on is laid over it
+pub sets-over : (f o : List ℕ) → length f ≤ length o → sets o 0 f ≡ over f o
+unfolding over
+sets-over f o h = let e : 0 + length f ≡ length f = omega arith in sets-eq f o 0 (omega arith) ∙ ap (λ (n : ℕ). f ++ drop n o) e
 
-  pack-next : (ns : List ℕ) → k < length ns → pack (drop k ss) (drop k ns) ≡ bigEndian (s .width) (getD ns k 0) ++ pack (drop (k + 1) ss) (drop (k + 1) ns)
-  unfolding pack
-  pack-next ns l =
-      ap (λ (t : List Slot). pack t (drop k ns)) slots-next ∙ ap (pack (s ∷ drop (k + 1) ss)) (drop-cons ns k 0 l ∙ ap (λ (j : ℕ). getD ns k 0 ∷ drop j ns) (sym (add-one k)))
+pub two-put : (o : List ℕ) (n at : ℕ) → set (set o at (n / 256 % 256)) (at + 1) (n % 256) ≡ sets o at (bigEndian 2 n)
+unfolding bigEndian
+two-put o n at = ap (λ (j : ℕ). set (set o at (n / 256 % 256)) j (n % 256)) (add-one at)
 
-  unpack-next : (bs : List ℕ) → unpack (drop k ss) bs ≡ numberOf (take (s .width) bs) ∷ unpack (drop (k + 1) ss) (drop (s .width) bs)
-  unfolding unpack
-  unpack-next bs = ap (λ (t : List Slot). unpack t bs) slots-next
+pub four-put : (o y z : List ℕ) (n at : ℕ) → y ≡ sets o at (bigEndian 2 (n / 65536)) → z ≡ sets y (at + 2) (bigEndian 2 n) → z ≡ sets o at (bigEndian 4 n)
+unfolding bigEndian
+four-put o y z n at e q =
+    let a : n / 65536 / 256 % 256 ≡ n / 256 / 256 / 256 % 256 = omega arith in
+    let b : n / 65536 % 256 ≡ n / 256 / 256 % 256 = omega arith in
+    q ∙ (sets-next o y at (at + 2) (bigEndian 2 (n / 65536)) (bigEndian 2 n) e refl ∙
+    (ap (λ (x : ℕ). sets o at (x ∷ n / 65536 % 256 ∷ n / 256 % 256 ∷ n % 256 ∷ [])) a ∙ ap (λ (x : ℕ). sets o at (n / 256 / 256 / 256 % 256 ∷ x ∷ n / 256 % 256 ∷ n % 256 ∷ [])) b))
 
-  in-next : (n : ℕ) (ns : List ℕ) → allIn (drop k ss) (n ∷ ns) ≡ (inSlot s n && allIn (drop (k + 1) ss) ns)
-  unfolding allIn
-  in-next n ns = ap (λ (t : List Slot). allIn t (n ∷ ns)) slots-next
+-- ---- numbers one behind the other
 
-pub part-short : (bs : List ℕ) (at w n : ℕ) → w ≤ n → length (take (at + w - at) (drop at bs)) ≤ n
-part-short bs at w n h = simp length-take (omega arith)
-
--- ---- writing the numbers: k of them are laid, in `at` bytes
-pub record Laid (ss : List Slot) (ns before out : List ℕ) (at k : ℕ) : Type 0 where
-  pub place : at + totalWidth (drop k ss) ≡ totalWidth ss
-  pub room : totalWidth ss ≤ length out
-  pub same : length out ≡ length before
-  pub laid : take at out ++ over (pack (drop k ss) (drop k ns)) (drop at out) ≡ over (pack ss ns) before
-
-pub laid-start : (ss : List Slot) (ns out : List ℕ) → totalWidth ss ≤ length out → Laid ss ns out out 0 0
-laid-start ss ns out h = record { place = omega arith; room = h; same = refl; laid = refl }
-
--- a part that is laid goes over to the front
-seam : (a y d f : List ℕ) (m : ℕ) → length a + length y ≡ m
-    → take m (a ++ (y ++ drop (length y) d)) ++ over f (drop m (a ++ (y ++ drop (length y) d))) ≡ a ++ over (y ++ f) d
-seam a y d f m e =
-    let l : length (a ++ y) ≡ m = length-append a y ∙ e in
-    let r : List ℕ = drop (length y) d in
-    ap (λ (t : List ℕ). take m t ++ over f (drop m t)) (sym (append-assoc a y r)) ∙
-    (ap (λ (t : List ℕ). t ++ over f (drop m ((a ++ y) ++ r))) (take-at (a ++ y) r m l) ∙
-    (ap (λ (t : List ℕ). (a ++ y) ++ over f t) (drop-at (a ++ y) r m l) ∙
-    (append-assoc a y (over f r) ∙ ap (λ (t : List ℕ). a ++ t) (sym (over-append y f d)))))
-
-pub laid-more : (ss : List Slot) (s : Slot) (ns before out ys : List ℕ) (at c k : ℕ) → Laid ss ns before out at k → length ss ≡ c → k < c → length ns ≡ c
-    → s ≡ getD ss k noSlot → ys ≡ bigEndian (length (take (at + s .width - at) (drop at out))) (getD ns k 0)
-    → Laid ss ns before (putMid at (at + s .width - at) out ys) (at + s .width) (k + 1)
-laid-more ss s ns before out ys at c k i m h l is e =
-    let fits : at + s .width ≤ length out = width-within ss s c k m h is at (length out) (i .place) (i .room) in
-    let w : at + s .width - at ≡ s .width = omega arith in
-    let d : length (drop at out) ≡ length out - at = length-drop at out in
-    let part : length (take (at + s .width - at) (drop at out)) ≡ s .width = length-take-le _ (drop at out) (omega arith) ∙ w in
-    let ends : ys ≡ bigEndian (s .width) (getD ns k 0) = e ∙ ap (λ (n : ℕ). bigEndian n (getD ns k 0)) part in
-    let long : length ys ≡ s .width = ap length ends ∙ big-length (s .width) (getD ns k 0) in
-    let front : length (take at out) ≡ at = length-take-le at out (omega arith) in
-    let rest : List ℕ = pack (drop (k + 1) ss) (drop (k + 1) ns) in
-    let is-now : putMid at (at + s .width - at) out ys ≡ take at out ++ (ys ++ drop (length ys) (drop at out)) =
-    ap (λ (n : ℕ). take at out ++ (ys ++ drop n (drop at out))) (w ∙ sym long) in
-    let kept : length (putMid at (at + s .width - at) out ys) ≡ length out = same-len-mid at (at + s .width - at) out ys (long ∙ sym part) in
-    record {
-      place = width-more ss s c k m h is at (i .place);
-      room = omega (arith, i .room);
-      same = kept ∙ i .same;
-      laid =
-          ap (λ (o : List ℕ). take (at + s .width) o ++ over rest (drop (at + s .width) o)) is-now ∙
-          (seam (take at out) ys (drop at out) rest (at + s .width) (omega arith) ∙
-          (ap (λ (y : List ℕ). take at out ++ over (y ++ rest) (drop at out)) ends ∙
-          (ap (λ (p : List ℕ). take at out ++ over p (drop at out)) (sym (pack-next ss s c k m h is ns (omega arith))) ∙ i .laid)));
-    }
-
-pub laid-end : (ss : List Slot) (ns before out : List ℕ) (at c k : ℕ) → Laid ss ns before out at k → length ss ≡ c → c ≤ k → out ≡ over (pack ss ns) before
-unfolding pack over
-laid-end ss ns before out at c k i m h =
-    let b : length ss ≤ k = omega arith in
-    sym (take-append-drop at out) ∙ (ap (λ (t : List Slot). take at out ++ over (pack t (drop k ns)) (drop at out)) (sym (drop-of-length-le ss b)) ∙ i .laid)
-
--- ---- reading the numbers: k of them are read, from `at` bytes
-pub record Taken (ss : List Slot) (bs before ns : List ℕ) (at k : ℕ) : Type 0 where
-  pub place : at + totalWidth (drop k ss) ≡ totalWidth ss
-  pub room : totalWidth ss ≤ length bs
-  pub numbers : ns ≡ copied (unpack ss bs) k before
-  pub left : drop k (unpack ss bs) ≡ unpack (drop k ss) (drop at bs)
-  pub inside : allIn ss (unpack ss bs) ≡ allIn (drop k ss) (drop k (unpack ss bs))
+-- the number at a place is read behind the widths of those before it
+pub unpack-at : (ss : List Slot) (bs : List ℕ) (k : ℕ) → k < length ss → getD (unpack ss bs) k 0 ≡ numberOf (take (getD ss k noSlot .width) (drop (totalWidth (take k ss)) bs))
+unfolding unpack totalWidth
+unpack-at [] bs k h = absurd (not-suc-le-zero h)
+unpack-at (s ∷ ss) bs zero h = refl
+unpack-at (s ∷ ss) bs (suc k) h =
+    unpack-at ss (drop (s .width) bs) k (le-of-suc-le-suc h) ∙
+    ap (λ (l : List ℕ). numberOf (take (getD ss k noSlot .width) l)) (drop-drop (totalWidth (take k ss)) (s .width) bs)
 
 pub unpack-length : (ss : List Slot) (bs : List ℕ) → length (unpack ss bs) ≡ length ss
 unfolding unpack
 unpack-length [] bs = refl
 unpack-length (s ∷ ss) bs = ap suc (unpack-length ss (drop (s .width) bs))
 
-pub taken-start : (ss : List Slot) (bs ns : List ℕ) → length bs ≡ totalWidth ss → Taken ss bs ns ns 0 0
-taken-start ss bs ns e = record { place = omega arith; room = omega arith; numbers = copied-none (unpack ss bs) ns; left = refl; inside = refl }
-
--- what the answer to a number tells of it
-outside-of : (b : Bool) (n : ℕ) → Outside ≡ unless b Outside (Inside n) → b ≡ false
-outside-of true n e = let z : _≡_ {A = ℕ} 0 1 = cc in absurd (omega arith)
-outside-of false n e = refl
-
-inside-of : (b : Bool) (n m : ℕ) → Inside n ≡ unless b Outside (Inside m) → (b ≡ true) × (n ≡ m)
-inside-of true n m e = (refl, cc)
-inside-of false n m e = let z : _≡_ {A = ℕ} 0 1 = cc in absurd (omega arith)
-
-read-outside : (s : Slot) (bs : List ℕ) → Outside ≡ numberRead s bs → inSlot s (numberOf bs) ≡ false
-unfolding numberRead
-read-outside s bs e = outside-of (inSlot s (numberOf bs)) (numberOf bs) e
-
-read-inside : (s : Slot) (bs : List ℕ) (n : ℕ) → Inside n ≡ numberRead s bs → (inSlot s (numberOf bs) ≡ true) × (n ≡ numberOf bs)
-unfolding numberRead
-read-inside s bs n e = inside-of (inSlot s (numberOf bs)) n (numberOf bs) e
-
--- the next number, and what its slot tells of the rest
-module _ (ss : List Slot) (s : Slot) (bs before ns : List ℕ) (at c k : ℕ) (i : Taken ss bs before ns at k) (long : length ss ≡ c) (below : k < c) (is : s ≡ getD ss k noSlot) where
-  part : List ℕ
-  part = take (at + s .width - at) (drop at bs)
-
-  taken-next : drop k (unpack ss bs) ≡ numberOf part ∷ unpack (drop (k + 1) ss) (drop (at + s .width) bs)
-  unfolding part
-  taken-next =
-      let w : s .width ≡ at + s .width - at = omega arith in
-      i .left ∙ (unpack-next ss s c k long below is (drop at bs) ∙ (ap (λ (n : ℕ). numberOf (take n (drop at bs)) ∷ unpack (drop (k + 1) ss) (drop (s .width) (drop at bs))) w ∙
-      ap (λ (t : List ℕ). numberOf (take (at + s .width - at) (drop at bs)) ∷ unpack (drop (k + 1) ss) t) (drop-drop (s .width) at bs)))
-
-  taken-tail : drop (k + 1) (unpack ss bs) ≡ unpack (drop (k + 1) ss) (drop (at + s .width) bs)
-  taken-tail = sym (drop-drop 1 k (unpack ss bs)) ∙ ap (drop 1) taken-next
-
-  taken-in : allIn ss (unpack ss bs) ≡ (inSlot s (numberOf part) && allIn (drop (k + 1) ss) (drop (k + 1) (unpack ss bs)))
-  taken-in =
-      i .inside ∙ (ap (allIn (drop k ss)) (taken-next ∙ ap (λ (t : List ℕ). numberOf part ∷ t) (sym taken-tail)) ∙ in-next ss s c k long below is (numberOf part) (drop (k + 1) (unpack ss bs)))
-
-  taken-number : numberOf part ≡ getD (unpack ss bs) k 0
-  taken-number =
-      let z : k + 0 ≡ k = omega arith in
-      ap (λ (t : List ℕ). getD t 0 0) (sym taken-next) ∙ (getD-drop k (unpack ss bs) 0 0 ∙ ap (λ (j : ℕ). getD (unpack ss bs) j 0) z)
-
-  -- the slot refuses it
-  pub taken-outside : (r : Number) → r ≡ numberRead s (take (at + s .width - at) (drop at bs)) → r ≡ Outside → allIn ss (unpack ss bs) ≡ false
-  unfolding part
-  taken-outside r e q = taken-in ∙ ap (λ (b : Bool). b && allIn (drop (k + 1) ss) (drop (k + 1) (unpack ss bs))) (read-outside s part (sym q ∙ e))
-
-  -- the slot takes it
-  pub taken-more : (r : Number) (n : ℕ) → length before ≡ c → r ≡ numberRead s (take (at + s .width - at) (drop at bs)) → r ≡ Inside n
-      → Taken ss bs before (set ns k n) (at + s .width) (k + 1)
-  unfolding part
-  taken-more r n l e q =
-      let h = read-inside s part n (sym q ∙ e) in
-      record {
-        place = width-more ss s c k long below is at (i .place);
-        room = i .room;
-        numbers = copied-more (unpack ss bs) before ns c k n (unpack-length ss bs ∙ long) l below (i .numbers) (h .1 ∙ taken-number);
-        left = taken-tail;
-        inside = taken-in ∙ ap (λ (b : Bool). b && allIn (drop (k + 1) ss) (drop (k + 1) (unpack ss bs))) (h .0);
-      }
-
-module _ (ss : List Slot) (bs before ns : List ℕ) (at c k : ℕ) (i : Taken ss bs before ns at k) (long : length ss ≡ c) (past : c ≤ k) where
-  pub taken-all : length before ≡ c → ns ≡ unpack ss bs
-  taken-all l = copied-all (unpack ss bs) before ns c k (unpack-length ss bs ∙ long) l past (i .numbers)
-
-  pub taken-inside : allIn ss (unpack ss bs) ≡ true
-  unfolding allIn
-  taken-inside = let b : length ss ≤ k = omega arith in i .inside ∙ ap (λ (t : List Slot). allIn t (drop k (unpack ss bs))) (drop-of-length-le ss b)
-
-  pub taken-slots : length before ≡ c → allIn ss ns ≡ true
-  taken-slots l = ap (allIn ss) (taken-all l) ∙ taken-inside
+pub pack-append : (ss ts : List Slot) (ns ms : List ℕ) → length ns ≡ length ss → pack (ss ++ ts) (ns ++ ms) ≡ pack ss ns ++ pack ts ms
+unfolding pack
+pack-append [] ts [] ms e = refl
+pack-append [] ts (n ∷ ns) ms e = absurd (omega arith)
+pack-append (s ∷ ss) ts [] ms e = absurd (omega arith)
+pack-append (s ∷ ss) ts (n ∷ ns) ms e =
+    ap (λ (l : List ℕ). bigEndian (s .width) n ++ l) (pack-append ss ts ns ms (omega arith)) ∙ sym (append-assoc (bigEndian (s .width) n) (pack ss ns) (pack ts ms))
 
 -- ---- packing and unpacking are inverse
 pub pack-length : (ss : List Slot) (ns : List ℕ) → length ns ≡ length ss → length (pack ss ns) ≡ totalWidth ss

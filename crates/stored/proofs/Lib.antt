@@ -4,3 +4,4 @@ pub mod Slots
 pub mod Numbers
 pub mod Answers
 pub mod RoundTrip
+pub mod Records

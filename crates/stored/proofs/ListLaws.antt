@@ -1,12 +1,12 @@
 -- Laws of lists: a list copied element by element, one laid over the start of another, and every second element. Assumes nothing.
 use Prim.Native.Nat.{ℕ, zero, suc, _+_, _*_, _/_, _≤_, _<_}
 use mathlib.Core.Path.{_≡_, refl, sym, ap, _∙_}
-use mathlib.Core.List.{List, [], _∷_, _++_, map, append-assoc, append-nil}
+use mathlib.Core.List.{List, [], _∷_, _++_, map, append-nil}
 use native.Mathlib.Nat.{not-suc-le-zero, le-of-suc-le-suc}
 use native.Mathlib.Numerals.{add-one}
 use native.Mathlib.Omega.{arith}
-use lib.ListN.{length, getD, take, drop, set, length-append, drop-of-length-le}
-use lib.Seq.{drop-drop, take-all, take-at}
+use lib.ListN.{length, getD, take, drop, set, drop-of-length-le}
+use lib.Seq.{take-all, take-at}
 use Rattle.stored.specs.Layout.{evens, odds}
 use Rattle.base.specs.Lists.{over}
 
@@ -15,6 +15,10 @@ pub getD-map-below : {A B : Type 0} (f : A → B) (l : List A) (i : ℕ) (d : A)
 getD-map-below f [] i d e h = absurd (not-suc-le-zero h)
 getD-map-below f (x ∷ xs) zero d e h = refl
 getD-map-below f (x ∷ xs) (suc i) d e h = getD-map-below f xs i d e (le-of-suc-le-suc h)
+
+pub map-append : {A B : Type 0} (f : A → B) (xs ys : List A) → map f (xs ++ ys) ≡ map f xs ++ map f ys
+map-append f [] ys = refl
+map-append f (x ∷ xs) ys = ap (λ (l : List _). f x ∷ l) (map-append f xs ys)
 
 -- ---- the first i elements of one list, and behind them another's
 unfoldable pub copied : List ℕ → ℕ → List ℕ → List ℕ
@@ -45,11 +49,6 @@ copied-all xs ys zs c i l m h e =
     e ∙ (ap (λ (t : List ℕ). take i xs ++ t) (drop-of-length-le ys b) ∙ (append-nil (take i xs) ∙ take-all i xs (omega arith)))
 
 -- ---- a list laid over the start of another
-pub over-append : (f g o : List ℕ) → over (f ++ g) o ≡ f ++ over g (drop (length f) o)
-unfolding over
-over-append f g o =
-    append-assoc f g (drop (length (f ++ g)) o) ∙ ap (λ (t : List ℕ). f ++ (g ++ t)) (ap (λ (n : ℕ). drop n o) (length-append f g) ∙ sym (drop-drop (length g) (length f) o))
-
 pub over-take : (f o : List ℕ) (n : ℕ) → length f ≡ n → take n (over f o) ≡ f
 unfolding over
 over-take f o n e = take-at f (drop (length f) o) n e

@@ -50,7 +50,7 @@ module _ (r : Record) where
   each-flag : (flagNumber (r .keypad) ≤ 1) × ((flagNumber (r .flow) ≤ 1) × ((flagNumber (r .changed) ≤ 1) × ((flagNumber (r .reset) ≤ 1) × (flagNumber (r .powerfail) ≤ 1))))
   each-flag = (flag-high (r .keypad), (flag-high (r .flow), (flag-high (r .changed), (flag-high (r .reset), flag-high (r .powerfail)))))
 
-  flags-in : inSlot (itemSlot (together flagFields)) (bits r flagFields) ≡ true
+  pub flags-in : inSlot (itemSlot (together flagFields)) (bits r flagFields) ≡ true
   flags-in = let h = each-flag in between-yes 0 31 (bits r flagFields) (omega arith) (omega arith)
 
   flags-bits : (bit 1 (bits r flagFields) ≡ r .keypad) × ((bit 2 (bits r flagFields) ≡ r .flow) × ((bit 4 (bits r flagFields) ≡ r .changed) ×
@@ -115,22 +115,26 @@ two P zero h a b = a
 two P (suc zero) h a b = b
 two P (suc (suc u)) h a b = absurd (omega arith)
 
-module _ (ns : List ℕ) (h : allIn (layout current) ns ≡ true) where
+module _ (ns : List ℕ) (p : getD ns 2 0 ≤ 4) (f : getD ns 3 0 ≤ 31) where
   number-same : (k : ℕ) → k < numberCount → getD (numbersOf current (recordOf ns)) k 0 ≡ getD ns k 0
   unfolding layout numbersOf recordOf
   number-same =
-      places (λ (k : ℕ). getD (numbersOf current (recordOf ns)) k 0 ≡ getD ns k 0) refl refl (phase-number (getD ns 2 0) (number-high ns 2 h (omega arith)))
-      (bits-back (getD ns 3 0) (omega (arith, number-high ns 3 h (omega arith)))) refl refl refl refl
+      places (λ (k : ℕ). getD (numbersOf current (recordOf ns)) k 0 ≡ getD ns k 0) refl refl (phase-number (getD ns 2 0) p)
+      (bits-back (getD ns 3 0) (omega arith)) refl refl refl refl
       (λ i u l q.
       two (λ (v : ℕ). getD (numbersOf current (recordOf ns)) (8 + 2 * i + v) 0 ≡ getD ns (8 + 2 * i + v) 0) u q
       (let z : 8 + 2 * i ≡ 8 + 2 * i + 0 = omega arith in
       subst (λ (k : ℕ). getD (numbersOf current (recordOf ns)) k 0 ≡ getD ns k 0) z (number-value (recordOf ns) i l ∙ sym (value-at ns i)))
       (number-level (recordOf ns) i l ∙ sym (level-at ns i)))
 
+  numbers-back : length ns ≡ length (layout current) → numbersOf current (recordOf ns) ≡ ns
+  numbers-back l =
+      let n : length (numbersOf current (recordOf ns)) ≡ numberCount = numbers-length (recordOf ns) in
+      ext-getD 0 _ _ (n ∙ sym (l ∙ layout-length)) (λ k q. number-same k (omega arith))
+
 pub numbers-of-record : (ns : List ℕ) → length ns ≡ length (layout current) → allIn (layout current) ns ≡ true → numbersOf current (recordOf ns) ≡ ns
-numbers-of-record ns l h =
-    let n : length (numbersOf current (recordOf ns)) ≡ numberCount = numbers-length (recordOf ns) in
-    ext-getD 0 _ _ (n ∙ sym (l ∙ layout-length)) (λ k q. number-same ns h k (omega arith))
+unfolding layout
+numbers-of-record ns l h = numbers-back ns (number-high ns 2 h (omega arith)) (number-high ns 3 h (omega arith)) l
 
 -- ---- a record is valid exactly if its stored numbers lie in their slots
 
@@ -190,6 +194,10 @@ unfolding recordOf
 numbers-valid ns l h =
     let n : length ns ≡ numberCount = l ∙ layout-length in
     numbers-in (recordOf ns) (values-length ns n) (levels-length ns n) (ap (allIn (layout current)) (numbers-of-record ns l h) ∙ h)
+
+-- beside a phase and flags within their slots, validity tells of all numbers
+pub record-slots : (ns : List ℕ) → getD ns 2 0 ≤ 4 → getD ns 3 0 ≤ 31 → length ns ≡ length (layout current) → valid (recordOf ns) ≡ true → allIn (layout current) ns ≡ true
+record-slots ns p f l v = sym (ap (allIn (layout current)) (numbers-back ns p f l)) ∙ valid-numbers (recordOf ns) v
 
 -- the record beside a refusal is valid
 pub low-valid : valid lowRecord ≡ true

@@ -1,15 +1,15 @@
 -- The slots of the layout, place by place. Assumes nothing.
 use Prim.Native.Nat.{ℕ, zero, suc, _+_, _-_, _*_, _/_, _%_, _≤_, _<_}
-use mathlib.Core.Bool.{Bool, true, false, false≢true}
+use mathlib.Core.Bool.{Bool, true, false≢true}
 use mathlib.Core.Path.{_≡_, refl, sym, ap, _∙_}
 use mathlib.Core.List.{List, [], _∷_, map}
 use mathlib.Core.Logic.{⊎-elim}
 use native.Mathlib.Nat.{not-suc-le-zero, le-of-suc-le-suc}
 use native.Mathlib.Omega.{arith}
-use lib.Dec.{eqb, leb}
+use lib.Dec.{eqb}
 use lib.ListN.{length, getD, length-append, List·getD-append, List·getD-eq-default}
 use lib.Seq.{getD-append-add, getD-drop}
-use borrow.Author.Tests.{eqb-true, ne-eqb, leb-true}
+use borrow.Author.Tests.{eqb-true, ne-eqb}
 use Rattle.state.specs.declared.Range.{Range}
 use Rattle.base.specs.Test.{pick}
 use Rattle.state.specs.Parameter.{parameterCount, rangeAt}
@@ -110,13 +110,6 @@ module _ (v k : ℕ) (one : v ≡ 1) where
     slot-value g n e =
         ap (λ (r : Range). record { width = 4; low = r .low; high = r .high }) e ∙ slot-parameter 0 (omega arith)
 
--- no slot is wider than a number
-pub width-at-most : (k : ℕ) (s : Slot) → k < numberCount → s ≡ getD (layout current) k noSlot → s .width ≤ 4
-unfolding layout
-width-at-most k s h e =
-    let l : getD (layout current) k noSlot .width ≤ 4 = leb-true _ _ (holds-below (λ (j : ℕ). leb (getD (layout current) j noSlot .width) 4) numberCount refl k h) in
-    omega (arith, ap (λ (t : Slot). t .width) e)
-
 -- ---- numbers in their slots, place by place
 pub in-at : (ss : List Slot) (ns : List ℕ) (k : ℕ) → allIn ss ns ≡ true → k < length ss → inSlot (getD ss k noSlot) (getD ns k 0) ≡ true
 unfolding allIn
@@ -129,12 +122,3 @@ pub number-high : (ns : List ℕ) (k : ℕ) → allIn (layout current) ns ≡ tr
 number-high ns k h l =
     let b : k < length (layout current) = omega (arith, layout-length) in
     between-high (getD (layout current) k noSlot .low) (getD (layout current) k noSlot .high) (getD ns k 0) (in-at (layout current) ns k h b)
-
--- so it fits where its slot's high end does
-pub number-below : (ns : List ℕ) (k n : ℕ) → allIn (layout current) ns ≡ true → k < numberCount → getD (layout current) k noSlot .high < n → getD ns k 0 < n
-number-below ns k n h l m = omega (arith, number-high ns k h l)
-
-pub level-below : (ns : List ℕ) (i n : ℕ) → allIn (layout current) ns ≡ true → i < parameterCount → 3 < n → getD ns (8 + 2 * i + 1) 0 < n
-unfolding layout
-level-below ns i n h l m =
-    number-below ns (8 + 2 * i + 1) n h (omega arith) (omega (arith, ap (λ (s : Slot). s .high) (item-at itemSlot noSlot i 1 l (omega arith))))

@@ -123,6 +123,6 @@ afterHeader done bs = bodyOf (drop headerWidth bs)
 unfoldable pub readOf : List ℕ → Outcome × Record
 readOf bs = afterHeader (headerOf bs) bs
 
--- a number that is read from its bytes, if it is within its slot
-unfoldable pub numberRead : Slot → List ℕ → Number
-numberRead s bs = unless (inSlot s (numberOf bs)) number.Outside (number.Inside (numberOf bs))
+-- a number that is read, if it is within its slot
+unfoldable pub numberRead : Slot → ℕ → Number
+numberRead s n = unless (inSlot s n) number.Outside (number.Inside n)

@@ -6,12 +6,15 @@ use state::RECIPES;
 use state::Record;
 ghost use mathlib.Core.Path.{_≡_};
 ghost use mathlib.Core.Bool.{true};
-ghost use Prim.Native.Nat.{_+_, _≤_, _<_};
-ghost use lib.ListN.{length, getD, drop};
-ghost use Rattle.state.specs.Field.{phaseOf, phaseNumber, flagNumber};
-ghost use Rattle.stored.specs.Layout.{current, layout, noSlot, flagFields, bits, evens, odds, numbersOf, recordOf};
-ghost use Rattle.stored.specs.Form.{storedLength, headerAs, answerAs, writtenAs, refusalNumber, K, bigEndian, numberOf, pack, allIn, totalWidth, writeOf, headerOf, lowRecord, bodyOf, readOf, numberRead};
-ghost use Rattle.base.specs.Lists.{over};
+ghost use mathlib.Core.List.{_∷_};
+ghost use Prim.Native.Nat.{_+_, _*_, _≤_, _<_};
+ghost use lib.ListN.{length, getD, take, drop};
+ghost use lib.Seq.{sets};
+ghost use Rattle.state.specs.Parameter.{parameterCount};
+ghost use Rattle.state.specs.Field.{phaseOf, flagNumber};
+ghost use Rattle.state.specs.Valid.{valid};
+ghost use Rattle.stored.specs.Layout.{current, layout, noSlot, flagFields, bits, numbersOf, recordOf};
+ghost use Rattle.stored.specs.Form.{storedLength, headerAs, answerAs, writtenAs, refusalNumber, K, bigEndian, numberOf, pack, unpack, totalWidth, writeOf, headerOf, lowRecord, bodyOf, readOf, numberRead};
 
 // The version that is written.
 pub const VERSION: u8 = 1;
@@ -25,8 +28,11 @@ const SCALARS: usize = 8;
 // All stored numbers: a parameter has its value and its level.
 const NUMBERS: usize = SCALARS + 2 * PARAMETERS;
 
-// Bytes in all.
-pub const STORED_LENGTH: usize = HEADER + 14 + 5 * PARAMETERS;
+// Bytes of the numbers stored before those of the parameters.
+const SCALAR_BYTES: usize = 14;
+
+// Bytes in all: a parameter's value takes 4, its level 1.
+pub const STORED_LENGTH: usize = HEADER + SCALAR_BYTES + 5 * PARAMETERS;
 
 // Where a number is stored: in how many bytes, and within which range.
 pub struct Slot {
@@ -147,9 +153,45 @@ fn scalar_slot(k: usize) -> Slot
     }
 }
 
-// ---- a record as its stored numbers, and back
+// ---- numbers as bytes, high byte first
 
-fn flag(b: bool) -> u32
+// The number in two bytes.
+fn two(s: &[u8], at: usize) -> u32
+    requires { ⌜ at + 2 ≤ length (now s) ⌝ }
+    ensures { λ n. ⌜ (n ≡ numberOf (take 2 (drop at (now (s .entry))))) × (n < 65536) ⌝ }
+{
+    wide(s[at]) * 256 + wide(s[at + 1])
+}
+
+// The number in four bytes.
+fn four(s: &[u8], at: usize) -> u32
+    requires { ⌜ at + 4 ≤ length (now s) ⌝ }
+    ensures { λ n. ⌜ n ≡ numberOf (take 4 (drop at (now (s .entry)))) ⌝ }
+{
+    two(s, at) * 65536 + two(s, at + 2)
+}
+
+// Stores a number's two low bytes.
+fn put_two(n: u32, at: usize, out: &mut [u8])
+    requires { ⌜ at + 2 ≤ length (now out) ⌝ }
+    ensures { λ _. ⌜ now (out .exit) ≡ sets (now (out .entry)) at (bigEndian 2 n) ⌝ }
+{
+    out[at] = (n / 256 % 256) as u8;
+    out[at + 1] = (n % 256) as u8;
+}
+
+// Stores a number's four bytes.
+fn put_four(n: u32, at: usize, out: &mut [u8])
+    requires { ⌜ at + 4 ≤ length (now out) ⌝ }
+    ensures { λ _. ⌜ now (out .exit) ≡ sets (now (out .entry)) at (bigEndian 4 n) ⌝ }
+{
+    put_two(n / 65536, at, out);
+    put_two(n, at + 2, out);
+}
+
+// ---- writing
+
+fn flag(b: bool) -> u8
     ensures { λ n. ⌜ (n ≡ flagNumber b) × (n ≤ 1) ⌝ }
 {
     if b {
@@ -158,26 +200,8 @@ fn flag(b: bool) -> u32
     0
 }
 
-fn phase_number(p: Phase) -> u32
-    ensures { λ n. ⌜ n ≡ phaseNumber p ⌝ }
-{
-    wide(state::phase_number(p))
-}
-
-fn phase_of(n: u32) -> Phase
-    ensures { λ p. ⌜ p ≡ phaseOf n ⌝ }
-{
-    match n {
-        0 => Phase::Idle,
-        1 => Phase::Set,
-        2 => Phase::Running,
-        3 => Phase::Stopped,
-        _ => Phase::Done,
-    }
-}
-
 // The flags in one number.
-fn flags(r: Record) -> u32
+fn flags(r: Record) -> u8
     ensures { λ n. ⌜ n ≡ bits r flagFields ⌝ }
 {
     flag(r.keypad)
@@ -186,136 +210,43 @@ fn flags(r: Record) -> u32
                 + 2 * (flag(r.changed) + 2 * (flag(r.reset) + 2 * (flag(r.powerfail) + 0))))
 }
 
-// The numbers of the record, in stored order.
-fn numbers_of(r: Record) -> [u32; NUMBERS]
-    ensures { λ ns. ⌜ ns ≡ numbersOf current r ⌝ }
+// The version and the length.
+fn put_header(out: &mut [u8])
+    requires { ⌜ 3 ≤ length (now out) ⌝ }
+    ensures { λ _. ⌜ now (out .exit) ≡ sets (now (out .entry)) 0 (current ∷ bigEndian 2 (storedLength current)) ⌝ }
+{
+    out[0] = VERSION;
+    put_two(STORED_LENGTH as u32, 1, out);
+}
+
+// The numbers but the parameters', behind the header.
+fn put_scalars(r: Record, out: &mut [u8])
+    requires { ⌜ (valid r ≡ true) × (17 ≤ length (now out)) ⌝ }
+    ensures { λ _. ⌜ now (out .exit) ≡ sets (now (out .entry)) 3 (pack (take 8 (layout current)) (take 8 (numbersOf current r))) ⌝ }
 {
     let phase = r.phase;
-    let mut ns = [0u32; NUMBERS];
-    ns[0] = r.address as u32;
-    ns[1] = r.access as u32;
-    ns[2] = phase_number(phase);
-    ns[3] = flags(r);
-    ns[4] = r.recipe as u32;
-    ns[5] = r.preset;
-    ns[6] = r.raw;
-    ns[7] = r.number as u32;
+    out[3] = r.address;
+    out[4] = r.access;
+    out[5] = state::phase_number(phase);
+    out[6] = flags(r);
+    out[7] = r.recipe;
+    out[8] = (r.preset / 65536 % 256) as u8;
+    put_two(r.preset, 9, out);
+    put_four(r.raw, 11, out);
+    put_two(r.number as u32, 15, out);
+}
+
+// The parameters' numbers, behind those.
+fn put_parameters(r: Record, out: &mut [u8])
+    requires { ⌜ (valid r ≡ true) × (17 + 5 * parameterCount ≤ length (now out)) ⌝ }
+    ensures { λ _. ⌜ now (out .exit) ≡ sets (now (out .entry)) 17 (pack (drop 8 (layout current)) (drop 8 (numbersOf current r))) ⌝ }
+{
     let mut i = 0;
     while i < PARAMETERS {
-        ns[SCALARS + 2 * i] = r.values[i];
-        ns[SCALARS + 2 * i + 1] = wide(r.levels[i]);
+        let at = HEADER + SCALAR_BYTES + 5 * i;
+        put_four(r.values[i], at, out);
+        out[at + 4] = r.levels[i];
         i += 1;
-    }
-    ns
-}
-
-struct Lists {
-    values: [u32; PARAMETERS],
-    levels: [u8; PARAMETERS],
-}
-
-// The parameters' values and levels.
-fn lists_of(ns: [u32; NUMBERS]) -> Lists
-    requires { ⌜ allIn (layout current) ns ≡ true ⌝ }
-    ensures { λ l. ⌜ (l .values ≡ evens (drop 8 ns)) × (l .levels ≡ odds (drop 8 ns)) ⌝ }
-{
-    let mut values = [0u32; PARAMETERS];
-    let mut levels = [0u8; PARAMETERS];
-    let mut i = 0;
-    while i < PARAMETERS {
-        values[i] = ns[SCALARS + 2 * i];
-        levels[i] = ns[SCALARS + 2 * i + 1] as u8;
-        i += 1;
-    }
-    Lists {
-        values: values,
-        levels: levels,
-    }
-}
-
-// The record that numbers within their slots are.
-fn record_of(ns: [u32; NUMBERS]) -> Record
-    requires { ⌜ allIn (layout current) ns ≡ true ⌝ }
-    ensures { λ r. ⌜ r ≡ recordOf ns ⌝ }
-{
-    let lists = lists_of(ns);
-    let values = lists.values;
-    let levels = lists.levels;
-    let flags = ns[3];
-    Record {
-        address: ns[0] as u8,
-        access: ns[1] as u8,
-        phase: phase_of(ns[2]),
-        keypad: flags / 1 % 2 == 1,
-        flow: flags / 2 % 2 == 1,
-        changed: flags / 4 % 2 == 1,
-        reset: flags / 8 % 2 == 1,
-        powerfail: flags / 16 % 2 == 1,
-        recipe: ns[4] as u8,
-        preset: ns[5],
-        raw: ns[6],
-        number: ns[7] as u16,
-        values: values,
-        levels: levels,
-    }
-}
-
-// The record with every field at its low end.
-pub fn low_record() -> Record
-    ensures { λ r. ⌜ r ≡ lowRecord ⌝ }
-{
-    let mut ns = [0u32; NUMBERS];
-    let mut k = 0;
-    while k < NUMBERS {
-        ns[k] = slot_at(VERSION, k).low;
-        k += 1;
-    }
-    record_of(ns)
-}
-
-// ---- numbers as bytes
-
-// Fills all of out with a number, high byte first.
-fn put_number(n: u32, out: &mut [u8])
-    ensures { λ _. ⌜ now (out .exit) ≡ bigEndian (length (now (out .entry))) n ⌝ }
-{
-    let mut rest = n;
-    let mut left = out.len();
-    while 0 < left {
-        left -= 1;
-        out[left] = (rest % 256) as u8;
-        rest = rest / 256;
-    }
-}
-
-// The number that the bytes are.
-fn get_number(s: &[u8]) -> u32
-    requires { ⌜ length (now s) ≤ 4 ⌝ }
-    ensures { λ n. ⌜ n ≡ numberOf (now (s .entry)) ⌝ }
-{
-    let mut n: u32 = 0;
-    let mut i = 0;
-    while i < s.len() {
-        n = n * 256 + wide(s[i]);
-        i += 1;
-    }
-    n
-}
-
-// ---- writing
-
-// Lays the numbers over the start of out, each in its slot.
-fn put_numbers(ns: [u32; NUMBERS], out: &mut [u8])
-    requires { ⌜ totalWidth (layout current) ≤ length (now out) ⌝ }
-    ensures { λ _. ⌜ now (out .exit) ≡ over (pack (layout current) ns) (now (out .entry)) ⌝ }
-{
-    let mut at = 0;
-    let mut k = 0;
-    while k < NUMBERS {
-        let end = at + slot_at(VERSION, k).width;
-        put_number(ns[k], &mut out[at..end]);
-        at = end;
-        k += 1;
     }
 }
 
@@ -329,10 +260,9 @@ pub fn write(r: Record, out: &mut [u8]) -> Written
     if out.len() < STORED_LENGTH {
         return Written::ShortBuffer;
     }
-    let ns = numbers_of(r);
-    out[0] = VERSION;
-    put_number(STORED_LENGTH as u32, &mut out[1..3]);
-    put_numbers(ns, &mut out[3..]);
+    put_header(out);
+    put_scalars(r, out);
+    put_parameters(r, out);
     Written::Whole
 }
 
@@ -348,22 +278,85 @@ fn read_header(s: &[u8]) -> Header
     if s[0] != VERSION {
         return Header::Refused(Refusal::Version);
     }
-    if get_number(&s[1..3]) as usize != STORED_LENGTH {
+    if two(s, 1) as usize != STORED_LENGTH {
         return Header::Refused(Refusal::LengthField);
     }
     Header::Good
 }
 
-// Reads one number, which must lie within its slot.
-fn read_number(s: &[u8], slot: Slot) -> Number
-    requires { ⌜ length (now s) ≤ 4 ⌝ }
-    ensures { λ n. ⌜ n ≡ numberRead slot (now (s .entry)) ⌝ }
+fn phase_of(n: u32) -> Phase
+    ensures { λ p. ⌜ p ≡ phaseOf n ⌝ }
 {
-    let n = get_number(s);
-    if !base::is_between(slot.low, slot.high, n) {
-        return Number::Outside;
+    match n {
+        0 => Phase::Idle,
+        1 => Phase::Set,
+        2 => Phase::Running,
+        3 => Phase::Stopped,
+        _ => Phase::Done,
     }
-    Number::Inside(n)
+}
+
+// The record that the numbers behind the header are, whether they lie in their slots or not.
+fn record_of(s: &[u8]) -> Record
+    requires { ⌜ 14 + 5 * parameterCount ≤ length (now s) ⌝ }
+    ensures { λ r. ⌜ r ≡ recordOf (unpack (layout current) (now (s .entry))) ⌝ }
+{
+    let flags = s[3];
+    let values = [0u32; PARAMETERS];
+    let levels = [0u8; PARAMETERS];
+    let mut r = Record {
+        address: s[0],
+        access: s[1],
+        phase: phase_of(wide(s[2])),
+        keypad: flags / 1 % 2 == 1,
+        flow: flags / 2 % 2 == 1,
+        changed: flags / 4 % 2 == 1,
+        reset: flags / 8 % 2 == 1,
+        powerfail: flags / 16 % 2 == 1,
+        recipe: s[4],
+        preset: wide(s[5]) * 65536 + two(s, 6),
+        raw: four(s, 8),
+        number: two(s, 12) as u16,
+        values: values,
+        levels: levels,
+    };
+    let mut i = 0;
+    while i < PARAMETERS {
+        let at = SCALAR_BYTES + 5 * i;
+        r.values[i] = four(s, at);
+        r.levels[i] = s[at + 4];
+        i += 1;
+    }
+    r
+}
+
+// The record with every field at its low end.
+pub fn low_record() -> Record
+    ensures { λ r. ⌜ r ≡ lowRecord ⌝ }
+{
+    let mut values = [0u32; PARAMETERS];
+    let mut i = 0;
+    while i < PARAMETERS {
+        values[i] = state::range_at(i).low;
+        i += 1;
+    }
+    let levels = [0u8; PARAMETERS];
+    Record {
+        address: 1,
+        access: 0,
+        phase: Phase::Idle,
+        keypad: false,
+        flow: false,
+        changed: false,
+        reset: false,
+        powerfail: false,
+        recipe: 1,
+        preset: 0,
+        raw: 0,
+        number: 1,
+        values: values,
+        levels: levels,
+    }
 }
 
 fn refused(refusal: Refusal) -> Reading
@@ -376,29 +369,47 @@ fn refused(refusal: Refusal) -> Reading
     }
 }
 
-// Reads the numbers behind the header.
-fn read_numbers(s: &[u8]) -> Reading
-    requires { ⌜ length (now s) ≡ totalWidth (layout current) ⌝ }
+// Reads the number at a place of one-byte numbers, which must lie within its slot.
+fn read_number(s: &[u8], k: usize) -> Number
+    requires { ⌜ (k + 1 ≤ 5) × (5 ≤ length (now s)) ⌝ }
+    ensures { λ n. ⌜ n ≡ numberRead (getD (layout current) k noSlot) (getD (now (s .entry)) k 0) ⌝ }
+{
+    let n = wide(s[k]);
+    let slot = scalar_slot(k);
+    if !base::is_between(slot.low, slot.high, n) {
+        return Number::Outside;
+    }
+    Number::Inside(n)
+}
+
+// The record behind the header, whose phase and flags lie in their slots: any other number beyond its slot makes it one that is
+// not valid.
+fn read_record(s: &[u8]) -> Reading
+    requires { ⌜ (length (now s) ≡ totalWidth (layout current)) × ((getD (now s) 2 0 ≤ 4) × (getD (now s) 3 0 ≤ 31)) ⌝ }
     ensures { λ r. ⌜ (answerAs (r .answer), r .record) ≡ bodyOf (now (s .entry)) ⌝ }
 {
-    let mut ns = [0u32; NUMBERS];
-    let mut at = 0;
-    let mut k = 0;
-    while k < NUMBERS {
-        let slot = slot_at(VERSION, k);
-        let end = at + slot.width;
-        let Number::Inside(n) = read_number(&s[at..end], slot) else {
-            return refused(Refusal::Field);
-        };
-        ns[k] = n;
-        at = end;
-        k += 1;
+    let record = record_of(s);
+    if !record.valid() {
+        return refused(Refusal::Field);
     }
-    let record = record_of(ns);
     Reading {
         answer: Answer::Whole,
         record: record,
     }
+}
+
+// Reads the numbers behind the header. A phase or flags beyond their slots would not show in the record, so they are read first.
+fn read_numbers(s: &[u8]) -> Reading
+    requires { ⌜ length (now s) ≡ totalWidth (layout current) ⌝ }
+    ensures { λ r. ⌜ (answerAs (r .answer), r .record) ≡ bodyOf (now (s .entry)) ⌝ }
+{
+    let Number::Inside(_) = read_number(s, 2) else {
+        return refused(Refusal::Field);
+    };
+    let Number::Inside(_) = read_number(s, 3) else {
+        return refused(Refusal::Field);
+    };
+    read_record(s)
 }
 
 // Reads a stored record. Beside a refusal stands the record with every field at its low end.

@@ -13,17 +13,8 @@ shared-slice-read-if2 c = search needs
 returns-2 : tie.Need-returns-2
 returns-2 c = search heading
 
-sub-get-number : tie.Need-sub-get-number
-sub-get-number c = search needs
-
-part-get-number-start : tie.Need-part-get-number-start
-part-get-number-start c = search needs
-
-part-get-number-end : tie.Need-part-get-number-end
-part-get-number-end c = search needs
-
-get-number-requires : tie.Need-get-number-requires
-get-number-requires c κs = search needs
+two-requires : tie.Need-two-requires
+two-requires c κs = search needs
 
 cast-if3 : tie.Need-cast-if3
 cast-if3 c = search needs
@@ -37,14 +28,4 @@ returns-4 c = search heading
 pub read-header-spec : {M : Type 1} → statement M
 read-header-spec =
     tie.close
-    (tie.spec
-    returns
-    shared-slice-read-if2
-    returns-2
-    sub-get-number
-    part-get-number-start
-    part-get-number-end
-    get-number-requires
-    cast-if3
-    returns-3
-    returns-4)
+    (tie.spec returns shared-slice-read-if2 returns-2 two-requires cast-if3 returns-3 returns-4)
