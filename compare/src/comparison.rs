@@ -162,35 +162,25 @@ impl Comparison {
     /// Compares one panel event; answers the stored record after it.
     pub fn panel(&mut self, event: u8, pulses: u16, stored: &[u8]) -> Result<Vec<u8>, Difference> {
         self.count(|counts| &mut counts.panel_events);
-        let mut stored_first = Lent::new(stored);
-        let mut stored_second = stored_first.clone();
-        let first = library::panel(event, pulses, stored_first.slice());
-        let second = interface::panel(event, pulses, stored_second.slice(), self.fault);
-        if first != second || stored_first != stored_second {
-            return Err(report(
-                &format!("panel event {event}, pulses {pulses}"),
-                &[("stored", stored)],
-                (first, &[("stored", &stored_first)]),
-                (second, &[("stored", &stored_second)]),
-            ));
-        }
-        Ok(stored_first.content().to_vec())
+        let (_, after) = both(
+            || format!("panel event {event}, pulses {pulses}"),
+            &[],
+            ("stored", stored),
+            |lent| library::panel(event, pulses, lent),
+            |lent| interface::panel(event, pulses, lent, self.fault),
+        )?;
+        Ok(after)
     }
 
     pub fn stored(&mut self, stored: &[u8], out: &[u8]) -> Result<(), Difference> {
         self.count(|counts| &mut counts.stored_forms);
-        let mut out_first = Lent::new(out);
-        let mut out_second = out_first.clone();
-        let first = library::stored(stored, out_first.slice());
-        let second = interface::stored(stored, out_second.slice(), self.fault);
-        if first != second || out_first != out_second {
-            return Err(report(
-                "stored form",
-                &[("stored", stored), ("out", out)],
-                (first, &[("out", &out_first)]),
-                (second, &[("out", &out_second)]),
-            ));
-        }
+        both(
+            || "stored form".to_string(),
+            &[("stored", stored)],
+            ("out", out),
+            |lent| library::stored(stored, lent),
+            |lent| interface::stored(stored, lent, self.fault),
+        )?;
         Ok(())
     }
 
@@ -202,19 +192,14 @@ impl Comparison {
         out: &[u8],
     ) -> Result<Option<Vec<u8>>, Difference> {
         self.count(|counts| &mut counts.host_side);
-        let mut out_first = Lent::new(out);
-        let mut out_second = out_first.clone();
-        let first = library::build(kind, text, out_first.slice());
-        let second = interface::build(kind, text, out_second.slice(), self.fault);
-        if first != second || out_first != out_second {
-            return Err(report(
-                &format!("build, kind {kind}"),
-                &[("text", text), ("out", out)],
-                (first, &[("out", &out_first)]),
-                (second, &[("out", &out_second)]),
-            ));
-        }
-        Ok((first < 100).then(|| out_first.content()[..first as usize].to_vec()))
+        let answered = both(
+            || format!("build, kind {kind}"),
+            &[("text", text)],
+            ("out", out),
+            |lent| library::build(kind, text, lent),
+            |lent| interface::build(kind, text, lent, self.fault),
+        )?;
+        Ok(laid(answered))
     }
 
     /// Compares a read; answers the text, if there is one.
@@ -225,19 +210,14 @@ impl Comparison {
         out: &[u8],
     ) -> Result<Option<Vec<u8>>, Difference> {
         self.count(|counts| &mut counts.host_side);
-        let mut out_first = Lent::new(out);
-        let mut out_second = out_first.clone();
-        let first = library::read(kind, frame, out_first.slice());
-        let second = interface::read(kind, frame, out_second.slice(), self.fault);
-        if first != second || out_first != out_second {
-            return Err(report(
-                &format!("read, kind {kind}"),
-                &[("frame", frame), ("out", out)],
-                (first, &[("out", &out_first)]),
-                (second, &[("out", &out_second)]),
-            ));
-        }
-        Ok((first < 100).then(|| out_first.content()[..first as usize].to_vec()))
+        let answered = both(
+            || format!("read, kind {kind}"),
+            &[("frame", frame)],
+            ("out", out),
+            |lent| library::read(kind, frame, lent),
+            |lent| interface::read(kind, frame, lent, self.fault),
+        )?;
+        Ok(laid(answered))
     }
 
     /// Builds a text, and reads what was built, which has to be the text.
@@ -293,6 +273,35 @@ fn no_round_trip(kind: u8, text: &[u8], frame: &[u8]) -> Difference {
         hexadecimal(text),
         hexadecimal(frame)
     ))
+}
+
+/// Lends one buffer to each side, and compares the answers and every byte; answers the number and
+/// the buffer.
+fn both(
+    what: impl FnOnce() -> String,
+    read: &[(&str, &[u8])],
+    (name, content): (&'static str, &[u8]),
+    library: impl FnOnce(&mut [u8]) -> u32,
+    second_program: impl FnOnce(&mut [u8]) -> u32,
+) -> Result<(u32, Vec<u8>), Difference> {
+    let mut lent_first = Lent::new(content);
+    let mut lent_second = lent_first.clone();
+    let first = library(lent_first.slice());
+    let second = second_program(lent_second.slice());
+    if first != second || lent_first != lent_second {
+        return Err(report(
+            &what(),
+            &[read, &[(name, content)]].concat(),
+            (first, &[(name, &lent_first)]),
+            (second, &[(name, &lent_second)]),
+        ));
+    }
+    Ok((first, lent_first.content().to_vec()))
+}
+
+/// The bytes at the start of a buffer whose length was answered; none, if a refusal was.
+fn laid((answer, buffer): (u32, Vec<u8>)) -> Option<Vec<u8>> {
+    (answer < 100).then(|| buffer[..answer as usize].to_vec())
 }
 
 type Answered<'lent> = (u32, &'lent [(&'static str, &'lent Lent)]);

@@ -189,9 +189,7 @@ fn by_definition(bytes: &[u8]) -> Option<Judgement> {
         .map(|record| agreeing(record, &recording.exchanges))
         .max()?;
     Some(if best == count {
-        Judgement::Fits {
-            count: count,
-        }
+        Judgement::Fits { count: count }
     } else {
         Judgement::Refuted {
             place: best + 1,
