@@ -6,20 +6,14 @@ Run it with Python 3: it prints their sections, which stand in crates/bench/stdo
 
 import copy
 
+from ranges import RANGES
+
 # ---- the record: its fields, ranges and parameters
 
 PHASES = ["Idle", "Set", "Running", "Stopped", "Done"]
 FLAGS = ["keypad", "flow", "changed", "reset", "power"]
 
-RANGES = {}
-for recipe in range(1, 9):
-    RANGES[10 * recipe + 1] = (0, 10000)
-    RANGES[10 * recipe + 2] = (8000, 12000)
-    RANGES[10 * recipe + 3] = (1, 9999)
-RANGES.update({801: (0, 99), 802: (0, 999), 803: (0, 9999), 804: (1, 9999)})
-RANGES.update({805: (0, 3), 806: (0, 1), 807: (1, 99999), 808: (0, 9)})
 CODES = sorted(RANGES)
-assert len(CODES) == 32
 
 
 class Record:

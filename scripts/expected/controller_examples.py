@@ -16,17 +16,11 @@
 # A line of any other kind is written back as it is.
 import sys
 
+from ranges import RANGES
+
 STX, ETX, PAD, STAR, CR, LF = 0x02, 0x03, 0x7F, 0x2A, 0x0D, 0x0A
 PHASES = ["Idle", "Set", "Running", "Stopped", "Done"]
 FLAGS = ["keypad", "flow", "changed", "reset", "powerfail"]
-
-RANGES = {}
-for recipe in range(1, 9):
-    RANGES[10 * recipe + 1] = (0, 10000)
-    RANGES[10 * recipe + 2] = (8000, 12000)
-    RANGES[10 * recipe + 3] = (1, 9999)
-RANGES.update({801: (0, 99), 802: (0, 999), 803: (0, 9999), 804: (1, 9999), 805: (0, 3), 806: (0, 1), 807: (1, 99999), 808: (0, 9)})
-assert len(RANGES) == 32
 
 
 def bench():
