@@ -9,6 +9,7 @@ use lib.Dec.{eqb}
 use lib.ListN.{drop}
 use lib.Seq.{drop-drop}
 use borrow.Author.Tests.{eq-eqb, ne-eqb, eqb-true, eqb-false, le-leb, lt-leb, lt-ltb, le-ltb}
+use Rattle.base.specs.Text.{text}
 use Rattle.state.specs.declared.Record.{Record}
 use Rattle.state.specs.declared.Place.{Place}
 use Rattle.state.specs.declared.Place.the-variants.{At, Nothing}
@@ -17,7 +18,7 @@ use Rattle.state.specs.Parameter.{recipes, parameterCount, placeOf, rangeAt}
 use Rattle.state.specs.Valid.{within}
 use Rattle.base.proofs.Tests.{below-or-not}
 use Rattle.command.specs.Word.{space, valueOf, equal, oneOf}
-use Rattle.command.specs.Commands.{EQ, RS, TN, RR, RC, RT, PV, XV, PC, XC, NR, SB, SA, SP, ET, RE, codeIn, Form, nothing, parameter, parameterAnd, aNumber, formed, rowOf, commands, Change, applied, behindSpace, BD, PC-word, R-word, word, argument, placeIn, parameterIn, numberIn, secondIn}
+use Rattle.command.specs.Commands.{EQ, RS, TN, RR, RC, RT, PV, XV, PC, XC, NR, SB, SA, SP, ET, RE, codeIn, Form, nothing, parameter, parameterAnd, aNumber, formed, rowOf, commands, Change, applied, behindSpace, argument, placeIn, parameterIn, numberIn, secondIn}
 use Rattle.command.specs.Answer.{Verdict, NO, accepted, firstOf, verdict, replyFor, recordFor, recordAfter}
 use Rattle.command.specs.Request.{volumeOf, flagOf, requestFor, requestOf, guarded, verdictFor, shows, changes, replyTo, recordTo}
 use Rattle.command.proofs.Parsing.{equal-true, words-behind, differs, absent, codes, unknown}
@@ -157,9 +158,9 @@ module _ (t : List ℕ) (r : Record) where
   at-RT : codeIn t ≡ RT → Agrees
   unfolding verdict firstOf rowOf requestOf requestFor verdictFor guarded formed volumeOf equal
   at-RT e =
-      by-word (space ∷ R-word) (λ x. both (simp (e, x)) (simp (e, x)) (simp (e, x)))
+      by-word (space ∷ text "R") (λ x. both (simp (e, x)) (simp (e, x)) (simp (e, x)))
       (λ n.
-      let m : behindSpace (oneOf (R-word ∷ [])) (drop 4 t) ≡ false = not-behind R-word n in
+      let m : behindSpace (oneOf (text "R" ∷ [])) (drop 4 t) ≡ false = not-behind (text "R") n in
       by-test (behindSpace (oneOf ((0x47 ∷ []) ∷ (0x4e ∷ []) ∷ (0x50 ∷ []) ∷ (0x4d ∷ []) ∷ [])) (drop 4 t))
       (λ y. refused 8 (simp (e, m, y, or-false)) (simp (e, m, y)))
       (λ y. refused 1 (simp (e, m, y, or-false)) (simp (e, m, y))))
@@ -167,14 +168,14 @@ module _ (t : List ℕ) (r : Record) where
   at-RE : codeIn t ≡ RE → Agrees
   unfolding verdict firstOf rowOf requestOf requestFor verdictFor guarded formed flagOf equal
   at-RE e =
-      by-word (space ∷ BD) (λ x. both (simp (e, x)) (simp (e, x)) (simp (e, behind-code BD x, x)))
+      by-word (space ∷ text "BD") (λ x. both (simp (e, x)) (simp (e, x)) (simp (e, behind-code (text "BD") x, x)))
       (λ a.
-      by-word (space ∷ PC-word) (λ x. both (simp (e, x)) (simp (e, x)) (simp (e, behind-code PC-word x, x)))
+      by-word (space ∷ text "PC") (λ x. both (simp (e, x)) (simp (e, x)) (simp (e, behind-code (text "PC") x, x)))
       (λ b.
-      let m : behindSpace (oneOf (BD ∷ PC-word ∷ [])) (drop 4 t) ≡ false = words-behind (BD ∷ PC-word ∷ []) (drop 4 t) ∙ simp (a, b) in
-      by-word (space ∷ word 0x50 0x46) (λ x. refused 8 (simp (e, x)) (simp (e, x)))
+      let m : behindSpace (oneOf (text "BD" ∷ text "PC" ∷ [])) (drop 4 t) ≡ false = words-behind (text "BD" ∷ text "PC" ∷ []) (drop 4 t) ∙ simp (a, b) in
+      by-word (space ∷ text "PF") (λ x. refused 8 (simp (e, x)) (simp (e, x)))
       (λ c.
-      refused 1 (simp (e, m, not-behind (word 0x50 0x46) c)) (simp (e, not-behind BD a, not-behind PC-word b, not-behind (word 0x50 0x46) c)))))
+      refused 1 (simp (e, m, not-behind (text "PF") c)) (simp (e, not-behind (text "BD") a, not-behind (text "PC") b, not-behind (text "PF") c)))))
     where
       behind-code : (w : List ℕ) → drop 4 t ≡ space ∷ w → argument t ≡ w
       behind-code w x = sym (drop-drop 1 4 t) ∙ ap (drop 1) x

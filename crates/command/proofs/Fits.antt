@@ -8,6 +8,7 @@ use native.Mathlib.Omega.{arith}
 use lib.Dec.{eqb, leb}
 use lib.ListN.{length, drop}
 use borrow.Author.Tests.{leb-true, ltb-true}
+use Rattle.base.specs.Text.{text}
 use Rattle.state.specs.declared.Record.{Record}
 use Rattle.base.specs.Test.{pick, between}
 use Rattle.state.specs.Parameter.{recipes, parameterCount, rangeAt}
@@ -17,7 +18,7 @@ use Rattle.state.proofs.Kept.{next-in}
 use Rattle.command.specs.declared.Request.{Request}
 use Rattle.command.specs.declared.Request.the-variants.{Unknown, Malformed, NotServed, Status, Codes, Number, Recipe, Composition, Raw, Value, Level, SetValue, SetLevel, SelectRecipe, SetBatch, Start, Stop, End, ClearReset, ClearChanged}
 use Rattle.command.specs.Word.{space, valueOf, oneOf, allDigits}
-use Rattle.command.specs.Commands.{EQ, RS, TN, RR, RC, RT, PV, XV, PC, XC, NR, SB, SA, SP, ET, RE, codeIn, Form, words, nothing, parameter, parameterAnd, aNumber, formed, digitsBetween, behindSpace, word, BD, PC-word, R-word}
+use Rattle.command.specs.Commands.{EQ, RS, TN, RR, RC, RT, PV, XV, PC, XC, NR, SB, SA, SP, ET, RE, codeIn, Form, words, nothing, parameter, parameterAnd, aNumber, formed, digitsBetween, behindSpace}
 use Rattle.command.specs.Answer.{accepted}
 use Rattle.command.specs.Request.{refusedUnless, listed, placeFor, guarded, guards, verdictFor, changes, whole, volumeOf, flagOf, requestFor, requestOf, parameterOf, lastOf}
 use Rattle.command.proofs.Parsing.{value-below}
@@ -48,16 +49,16 @@ volume-bounded : (xs : List ℕ) → Bounded (volumeOf xs)
 unfolding volumeOf
 volume-bounded xs =
     let others : Bool = behindSpace (oneOf ((0x47 ∷ []) ∷ (0x4e ∷ []) ∷ (0x50 ∷ []) ∷ (0x4d ∷ []) ∷ [])) xs in
-    picked (formed (words (R-word ∷ [])) xs) Raw (pick others NotServed Malformed) (λ h n q. never (cc))
+    picked (formed (words (text "R" ∷ [])) xs) Raw (pick others NotServed Malformed) (λ h n q. never (cc))
     (picked others NotServed Malformed (λ h n q. never (cc)) (λ n q. never (cc)))
 
 flag-bounded : (xs : List ℕ) → Bounded (flagOf xs)
 unfolding flagOf
 flag-bounded xs =
     let is : List ℕ → Bool = λ w. behindSpace (oneOf (w ∷ [])) xs in
-    picked (is BD) ClearReset (pick (is PC-word) ClearChanged (pick (is (word 0x50 0x46)) NotServed Malformed)) (λ h n q. never (cc))
-    (picked (is PC-word) ClearChanged (pick (is (word 0x50 0x46)) NotServed Malformed) (λ h n q. never (cc))
-    (picked (is (word 0x50 0x46)) NotServed Malformed (λ h n q. never (cc)) (λ n q. never (cc))))
+    picked (is (text "BD")) ClearReset (pick (is (text "PC")) ClearChanged (pick (is (text "PF")) NotServed Malformed)) (λ h n q. never (cc))
+    (picked (is (text "PC")) ClearChanged (pick (is (text "PF")) NotServed Malformed) (λ h n q. never (cc))
+    (picked (is (text "PF")) NotServed Malformed (λ h n q. never (cc)) (λ n q. never (cc))))
 
 either : (b : Bool) (q k : Request) → Bounded q → Bounded k → Bounded (pick b q k)
 either b q k f g = picked b q k (λ h. f) g

@@ -11,6 +11,7 @@ use lib.Dec.{eqb}
 use lib.ListN.{length, take, drop, getD, length-append, length-drop, length-take, drop-of-length-le, List·getD-eq-default}
 use lib.Seq.{take-all, length-take-le, drop-drop}
 use borrow.Author.Tests.{le-leb, lt-leb, eq-eqb, ne-eqb, eqb-true, not-true, not-false}
+use Rattle.base.specs.Text.{text}
 use Rattle.base.specs.Test.{pick, between, member, allBetween}
 use Rattle.base.proofs.Tests.{and-yes, and-left, and-right, between-yes, between-low, between-high}
 use Rattle.frame.specs.Frame.{isDigit}
@@ -22,7 +23,7 @@ use Rattle.command.specs.declared.Digits.the-variants as digitsRead
 use Rattle.command.specs.declared.Numbers.{Numbers}
 use Rattle.command.specs.declared.Numbers.the-variants as numbersRead
 use Rattle.command.specs.Word.{space, digits, allDigits, valueFrom, valueOf, equal, oneOf}
-use Rattle.command.specs.Commands.{EQ, RS, TN, RR, RC, RT, PV, XV, PC, XC, NR, SB, SA, SP, ET, RE, codeIn, numbers, nothing, word, R-word, BD, PC-word, digitsBetween, behindSpace, formed}
+use Rattle.command.specs.Commands.{EQ, RS, TN, RR, RC, RT, PV, XV, PC, XC, NR, SB, SA, SP, ET, RE, codeIn, numbers, nothing, digitsBetween, behindSpace, formed}
 use Rattle.command.specs.Request.{numberFor, parameterOf, lastOf, numbersOf, whole, volumeOf, flagOf, requestFor, requestOf}
 
 never : _≡_ {A = ℕ} 0 1 → ⊥
@@ -227,12 +228,12 @@ unfolding volumeOf formed
 volume-none s a b d g h a′ a″ b′ b″ d′ d″ g′ g″ h′ h″ =
     let others : List (List ℕ) = (0x47 ∷ []) ∷ (0x4e ∷ []) ∷ (0x50 ∷ []) ∷ (0x4d ∷ []) ∷ [] in
     let y : behindSpace (oneOf others) s ≡ false = words-behind others s ∙ simp (sym b′ ∙ b″, sym d′ ∙ d″, sym g′ ∙ g″, sym h′ ∙ h″) in
-    simp (not-word R-word s a a′ a″, y)
+    simp (not-word (text "R") s a a′ a″, y)
 
 pub flag-none : (s : List ℕ) (a b d : Bool) → a ≡ equal s (0x20 ∷ 0x42 ∷ 0x44 ∷ []) → a ≡ false → b ≡ equal s (0x20 ∷ 0x50 ∷ 0x43 ∷ []) → b ≡ false
     → d ≡ equal s (0x20 ∷ 0x50 ∷ 0x46 ∷ []) → d ≡ false → request.Malformed ≡ flagOf s
 unfolding flagOf
-flag-none s a b d a′ a″ b′ b″ d′ d″ = simp (not-word BD s a a′ a″, not-word PC-word s b b′ b″, not-word (word 0x50 0x46) s d d′ d″)
+flag-none s a b d a′ a″ b′ b″ d′ d″ = simp (not-word (text "BD") s a a′ a″, not-word (text "PC") s b b′ b″, not-word (text "PF") s d d′ d″)
 
 -- ---- the part of a text from its byte n on
 abbrev pub behind : ℕ → List ℕ → List ℕ

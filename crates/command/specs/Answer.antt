@@ -1,11 +1,12 @@
 -- Document 01, "Commands": "A request that is not silent gets a reply."
 use Prim.Native.Nat.{ℕ}
 use mathlib.Core.List.{List, [], _∷_, _++_}
+use Rattle.base.specs.Text.{text}
 use Rattle.state.specs.declared.Record.{Record}
 use Rattle.base.specs.Test.{pick}
 use Rattle.state.specs.Field.{address, get}
 use Rattle.command.specs.Word.{digits}
-use Rattle.command.specs.Commands.{commands, codeIn, rowOf, applied, word}
+use Rattle.command.specs.Commands.{commands, codeIn, rowOf, applied}
 use Rattle.command.specs.Refusals.{Row, applies, rowNumber, refusals}
 
 -- NOnn, or accepted
@@ -23,7 +24,7 @@ verdict t r = firstOf refusals t r
 
 -- "reply NO and two digits, record unchanged"
 abbrev pub replyFor : Verdict → List ℕ → Record → List ℕ
-replyFor (NO n) t r = word 0x4e 0x4f ++ digits 2 n
+replyFor (NO n) t r = text "NO" ++ digits 2 n
 replyFor accepted t r = rowOf (codeIn t) commands .reply t r
 
 abbrev pub recordFor : Verdict → List ℕ → Record → Record

@@ -4,6 +4,7 @@ use mathlib.Core.Bool.{Bool, true, false, _&&_}
 use mathlib.Core.List.{List, [], _∷_, _++_}
 use lib.Dec.{eqb}
 use lib.ListN.{length, getD, take, drop}
+use Rattle.base.specs.Text.{text, letters}
 use Rattle.state.specs.declared.Record.{Record}
 use Rattle.state.specs.declared.Place.{Place}
 use Rattle.state.specs.declared.Place.the-variants.{At, Nothing}
@@ -16,52 +17,52 @@ use Rattle.command.specs.Status.{statusCharacters, statusCodes, codesOn}
 
 -- ---- the codes, two letters as one number
 abbrev pub EQ : ℕ
-EQ = 0x4551
+EQ = letters "EQ"
 
 abbrev pub RS : ℕ
-RS = 0x5253
+RS = letters "RS"
 
 abbrev pub TN : ℕ
-TN = 0x544e
+TN = letters "TN"
 
 abbrev pub RR : ℕ
-RR = 0x5252
+RR = letters "RR"
 
 abbrev pub RC : ℕ
-RC = 0x5243
+RC = letters "RC"
 
 abbrev pub RT : ℕ
-RT = 0x5254
+RT = letters "RT"
 
 abbrev pub PV : ℕ
-PV = 0x5056
+PV = letters "PV"
 
 abbrev pub XV : ℕ
-XV = 0x5856
+XV = letters "XV"
 
 abbrev pub PC : ℕ
-PC = 0x5043
+PC = letters "PC"
 
 abbrev pub XC : ℕ
-XC = 0x5843
+XC = letters "XC"
 
 abbrev pub NR : ℕ
-NR = 0x4e52
+NR = letters "NR"
 
 abbrev pub SB : ℕ
-SB = 0x5342
+SB = letters "SB"
 
 abbrev pub SA : ℕ
-SA = 0x5341
+SA = letters "SA"
 
 abbrev pub SP : ℕ
-SP = 0x5350
+SP = letters "SP"
 
 abbrev pub ET : ℕ
-ET = 0x4554
+ET = letters "ET"
 
 abbrev pub RE : ℕ
-RE = 0x5245
+RE = letters "RE"
 
 -- the code of a text: its third and fourth byte
 unfoldable pub codeIn : List ℕ → ℕ
@@ -137,21 +138,8 @@ unfoldable pub secondIn : List ℕ → ℕ
 secondIn t = valueOf (drop 4 (argument t))
 
 -- ---- replies
-abbrev pub word : ℕ → ℕ → List ℕ
-word a b = a ∷ b ∷ []
-
--- "BD", "PC"
-abbrev pub BD : List ℕ
-BD = word 0x42 0x44
-
-abbrev pub PC-word : List ℕ
-PC-word = word 0x50 0x43
-
-abbrev pub R-word : List ℕ
-R-word = 0x52 ∷ []
-
 abbrev pub OK : List ℕ
-OK = word 0x4f 0x4b
+OK = text "OK"
 
 -- the place of recipe r's factor
 abbrev pub factorPlace : ℕ → ℕ
@@ -178,7 +166,7 @@ applied (c ∷ cs) r = put (c .field) (c .to) (applied cs r)
 
 -- "that flag": BD is batch reset, PC is changed
 abbrev pub flagNamed : List ℕ → Field
-flagNamed t = pick (equal (argument t) BD) reset changed
+flagNamed t = pick (equal (argument t) (text "BD")) reset changed
 
 -- ---- the table
 pub record Command : Type 0 where
@@ -197,13 +185,13 @@ writes c f e = record { code = c; form = f; reply = λ t r. OK; effect = e }
 abbrev pub commands : List Command
 commands =
     reads EQ nothing (λ t r. statusCharacters r)
-    ∷ reads RS nothing (λ t r. word 0x52 0x53 ++ (space ∷ codesOn statusCodes r))
-    ∷ reads TN nothing (λ t r. spaced (word 0x54 0x4e ∷ digits 4 (get number r) ∷ []))
-    ∷ reads RR nothing (λ t r. spaced (word 0x52 0x52 ∷ digits 2 (get recipe r) ∷ []))
-    ∷ reads RC nothing (λ t r. spaced (word 0x52 0x43 ∷ digits 2 (get recipe r) ∷ digits 8 (get (value (factorPlace (get recipe r))) r) ∷ []))
-    ∷ reads RT (words (R-word ∷ [])) (λ t r. spaced (word 0x52 0x54 ∷ R-word ∷ digits 8 (get raw r) ∷ []))
-    ∷ reads PV parameter (λ t r. spaced (word 0x50 0x56 ∷ digits 3 (parameterIn t) ∷ digits 8 (get (value (placeIn t)) r) ∷ []))
-    ∷ reads XV parameter (λ t r. spaced (word 0x58 0x56 ∷ digits 3 (parameterIn t) ∷ digits 1 (get (level (placeIn t)) r) ∷ []))
+    ∷ reads RS nothing (λ t r. text "RS" ++ (space ∷ codesOn statusCodes r))
+    ∷ reads TN nothing (λ t r. spaced (text "TN" ∷ digits 4 (get number r) ∷ []))
+    ∷ reads RR nothing (λ t r. spaced (text "RR" ∷ digits 2 (get recipe r) ∷ []))
+    ∷ reads RC nothing (λ t r. spaced (text "RC" ∷ digits 2 (get recipe r) ∷ digits 8 (get (value (factorPlace (get recipe r))) r) ∷ []))
+    ∷ reads RT (words (text "R" ∷ [])) (λ t r. spaced (text "RT" ∷ text "R" ∷ digits 8 (get raw r) ∷ []))
+    ∷ reads PV parameter (λ t r. spaced (text "PV" ∷ digits 3 (parameterIn t) ∷ digits 8 (get (value (placeIn t)) r) ∷ []))
+    ∷ reads XV parameter (λ t r. spaced (text "XV" ∷ digits 3 (parameterIn t) ∷ digits 1 (get (level (placeIn t)) r) ∷ []))
     ∷ writes PC (parameterAnd 1 8) (λ t r. (value (placeIn t) ≔ secondIn t) ∷ (changed ≔ on) ∷ [])
     ∷ writes XC (parameterAnd 1 1) (λ t r. (level (placeIn t) ≔ secondIn t) ∷ [])
     ∷ writes NR (aNumber 2 2) (λ t r. (recipe ≔ numberIn t) ∷ [])
@@ -211,7 +199,7 @@ commands =
     ∷ writes SA nothing (λ t r. (phase ≔ running) ∷ [])
     ∷ writes SP nothing (λ t r. (phase ≔ stopped) ∷ [])
     ∷ writes ET nothing (λ t r. (phase ≔ idle) ∷ [])
-    ∷ writes RE (words (BD ∷ PC-word ∷ [])) (λ t r. (flagNamed t ≔ off) ∷ [])
+    ∷ writes RE (words (text "BD" ∷ text "PC" ∷ [])) (λ t r. (flagNamed t ≔ off) ∷ [])
     ∷ []
 
 -- the row of a code; the last entry stands for a code that is not in the table, which no request that is accepted has

@@ -4,6 +4,7 @@ use mathlib.Core.Bool.{Bool, true, false, not, _&&_, _||_}
 use mathlib.Core.List.{List, [], _∷_, map}
 use lib.Dec.{eqb, ltb}
 use lib.ListN.{drop}
+use Rattle.base.specs.Text.{text}
 use Rattle.state.specs.declared.Record.{Record}
 use Rattle.state.specs.declared.Place.{Place}
 use Rattle.state.specs.declared.Place.the-variants.{At, Nothing}
@@ -13,7 +14,7 @@ use Rattle.state.specs.Field.{Field, access, phase, keypad, level, get, on}
 use Rattle.state.specs.Valid.{within}
 use Rattle.state.specs.Event.{idle, set, running, stopped, done}
 use Rattle.command.specs.Word.{oneOf}
-use Rattle.command.specs.Commands.{RT, PV, XV, PC, XC, NR, SB, SA, SP, ET, RE, codeIn, Command, commands, rowOf, formed, word, parameterIn, placeIn, numberIn, secondIn, behindSpace}
+use Rattle.command.specs.Commands.{RT, PV, XV, PC, XC, NR, SB, SA, SP, ET, RE, codeIn, Command, commands, rowOf, formed, parameterIn, placeIn, numberIn, secondIn, behindSpace}
 
 -- the text's code is one of these
 abbrev pub of : List ℕ → List ℕ → Bool
@@ -39,8 +40,8 @@ unknownCode t = not (of (map (λ (k : Command). k .code) commands) t)
 -- "NO08's five requests": "RT G, RT N, RT P, RT M; RE PF"
 abbrev pub notServed : List ℕ → Bool
 notServed t =
-    (of (RT ∷ []) t && behindSpace (oneOf ((0x47 ∷ []) ∷ (0x4e ∷ []) ∷ (0x50 ∷ []) ∷ (0x4d ∷ []) ∷ [])) (drop 4 t))
-    || (of (RE ∷ []) t && behindSpace (oneOf (word 0x50 0x46 ∷ [])) (drop 4 t))
+    (of (RT ∷ []) t && behindSpace (oneOf (text "G" ∷ text "N" ∷ text "P" ∷ text "M" ∷ [])) (drop 4 t))
+    || (of (RE ∷ []) t && behindSpace (oneOf (text "PF" ∷ [])) (drop 4 t))
 
 -- NO01 "code followed by anything but a space, or arguments not of the form, or missing, or too many; NO08's five requests aside"
 abbrev pub malformed : List ℕ → Bool

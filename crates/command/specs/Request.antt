@@ -5,6 +5,7 @@ use mathlib.Core.Bool.{Bool, true, false, not, _&&_, _||_}
 use mathlib.Core.List.{List, [], _∷_, _++_}
 use lib.Dec.{eqb, leb, ltb}
 use lib.ListN.{length, take, drop}
+use Rattle.base.specs.Text.{text}
 use Rattle.state.specs.declared.Record.{Record}
 use Rattle.base.specs.Test.{pick, between, member}
 use Rattle.state.specs.Parameter.{recipes, parameterCount, placeOf, rangeAt}
@@ -23,7 +24,7 @@ use Rattle.command.specs.declared.Numbers.{Numbers}
 use Rattle.command.specs.declared.Numbers.the-variants as numbersRead
 use Rattle.command.specs.Word.{space, digits, allDigits, valueOf, oneOf}
 use Rattle.command.specs.Status.{statusCharacters, statusCodes, codesOn}
-use Rattle.command.specs.Commands.{EQ, RS, TN, RR, RC, RT, PV, XV, PC, XC, NR, SB, SA, SP, ET, RE, codeIn, Form, numbers, words, nothing, parameter, parameterAnd, aNumber, formed, behindSpace, placeNumber, word, spaced, BD, PC-word, R-word, OK, factorPlace, Change, _≔_, applied}
+use Rattle.command.specs.Commands.{EQ, RS, TN, RR, RC, RT, PV, XV, PC, XC, NR, SB, SA, SP, ET, RE, codeIn, Form, numbers, words, nothing, parameter, parameterAnd, aNumber, formed, behindSpace, placeNumber, spaced, OK, factorPlace, Change, _≔_, applied}
 use Rattle.command.specs.Answer.{Verdict, NO, accepted}
 
 -- ---- the code's answers as document 01 numbers them
@@ -68,14 +69,14 @@ whole f xs q = pick (formed f xs) q Malformed
 -- RT and RE: the words that are served, and those that are not
 unfoldable pub volumeOf : List ℕ → Request
 volumeOf xs =
-    pick (formed (words (R-word ∷ [])) xs) Raw
+    pick (formed (words (text "R" ∷ [])) xs) Raw
     (pick (behindSpace (oneOf ((0x47 ∷ []) ∷ (0x4e ∷ []) ∷ (0x50 ∷ []) ∷ (0x4d ∷ []) ∷ [])) xs) NotServed Malformed)
 
 unfoldable pub flagOf : List ℕ → Request
 flagOf xs =
-    pick (behindSpace (oneOf (BD ∷ [])) xs) ClearReset
-    (pick (behindSpace (oneOf (PC-word ∷ [])) xs) ClearChanged
-    (pick (behindSpace (oneOf (word 0x50 0x46 ∷ [])) xs) NotServed Malformed))
+    pick (behindSpace (oneOf (text "BD" ∷ [])) xs) ClearReset
+    (pick (behindSpace (oneOf (text "PC" ∷ [])) xs) ClearChanged
+    (pick (behindSpace (oneOf (text "PF" ∷ [])) xs) NotServed Malformed))
 
 unfoldable pub requestFor : ℕ → List ℕ → Request
 requestFor c xs =
@@ -203,13 +204,13 @@ shows Unknown r = []
 shows Malformed r = []
 shows NotServed r = []
 shows Status r = statusCharacters r
-shows Codes r = word 0x52 0x53 ++ (space ∷ codesOn statusCodes r)
-shows Number r = spaced (word 0x54 0x4e ∷ digits 4 (get number r) ∷ [])
-shows Recipe r = spaced (word 0x52 0x52 ∷ digits 2 (get recipe r) ∷ [])
-shows Composition r = spaced (word 0x52 0x43 ∷ digits 2 (get recipe r) ∷ digits 8 (get (value (factorPlace (get recipe r))) r) ∷ [])
-shows Raw r = spaced (word 0x52 0x54 ∷ R-word ∷ digits 8 (get raw r) ∷ [])
-shows (Value p) r = spaced (word 0x50 0x56 ∷ digits 3 p ∷ digits 8 (get (value (placeFor p)) r) ∷ [])
-shows (Level p) r = spaced (word 0x58 0x56 ∷ digits 3 p ∷ digits 1 (get (level (placeFor p)) r) ∷ [])
+shows Codes r = text "RS" ++ (space ∷ codesOn statusCodes r)
+shows Number r = spaced (text "TN" ∷ digits 4 (get number r) ∷ [])
+shows Recipe r = spaced (text "RR" ∷ digits 2 (get recipe r) ∷ [])
+shows Composition r = spaced (text "RC" ∷ digits 2 (get recipe r) ∷ digits 8 (get (value (factorPlace (get recipe r))) r) ∷ [])
+shows Raw r = spaced (text "RT" ∷ text "R" ∷ digits 8 (get raw r) ∷ [])
+shows (Value p) r = spaced (text "PV" ∷ digits 3 p ∷ digits 8 (get (value (placeFor p)) r) ∷ [])
+shows (Level p) r = spaced (text "XV" ∷ digits 3 p ∷ digits 1 (get (level (placeFor p)) r) ∷ [])
 shows (SetValue p n) r = OK
 shows (SetLevel p l) r = OK
 shows (SelectRecipe n) r = OK
@@ -247,7 +248,7 @@ changes ClearChanged r = (changed ≔ off) ∷ []
 
 -- ---- the reply behind the address digits, and the record afterwards
 abbrev pub replyTo : Verdict → Request → Record → List ℕ
-replyTo (NO n) q r = word 0x4e 0x4f ++ digits 2 n
+replyTo (NO n) q r = text "NO" ++ digits 2 n
 replyTo accepted q r = shows q r
 
 abbrev pub recordTo : Verdict → Request → Record → Record

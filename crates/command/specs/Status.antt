@@ -1,8 +1,10 @@
 -- Document 01, "Commands": the six status characters of EQ and the status codes of RS.
 use Prim.Native.Nat.{ℕ, _+_, _*_}
+use Prim.Native.String.{String}
 use mathlib.Core.Bool.{Bool}
 use mathlib.Core.List.{List, [], _∷_, _++_}
 use lib.Dec.{eqb}
+use Rattle.base.specs.Text.{text}
 use Rattle.state.specs.declared.Record.{Record}
 use Rattle.base.specs.Test.{pick, member}
 use Rattle.state.specs.Field.{Field, phase, keypad, flow, changed, reset, powerfail, get, on, flagNumber}
@@ -43,20 +45,20 @@ pub record Shown : Type 0 where
   pub letters : List ℕ
   pub if : Record → Bool
 
-abbrev pub shown : ℕ → ℕ → (Record → Bool) → Shown
-shown a b p = record { letters = a ∷ b ∷ []; if = p }
+abbrev pub shown : String → (Record → Bool) → Shown
+shown s p = record { letters = text s; if = p }
 
 -- "RS codes, in 000's order: FL flow, BD, PC, PF, PW keypad, TD Done, TP Running/Stopped, RL Running."
 abbrev pub statusCodes : List Shown
 statusCodes =
-    shown 0x46 0x4c (isOn flow)
-    ∷ shown 0x42 0x44 (isOn reset)
-    ∷ shown 0x50 0x43 (isOn changed)
-    ∷ shown 0x50 0x46 (isOn powerfail)
-    ∷ shown 0x50 0x57 (isOn keypad)
-    ∷ shown 0x54 0x44 (inPhases (done ∷ []))
-    ∷ shown 0x54 0x50 (inPhases (running ∷ stopped ∷ []))
-    ∷ shown 0x52 0x4c (inPhases (running ∷ []))
+    shown "FL" (isOn flow)
+    ∷ shown "BD" (isOn reset)
+    ∷ shown "PC" (isOn changed)
+    ∷ shown "PF" (isOn powerfail)
+    ∷ shown "PW" (isOn keypad)
+    ∷ shown "TD" (inPhases (done ∷ []))
+    ∷ shown "TP" (inPhases (running ∷ stopped ∷ []))
+    ∷ shown "RL" (inPhases (running ∷ []))
     ∷ []
 
 -- "each code and a space"

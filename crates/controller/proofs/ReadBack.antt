@@ -7,6 +7,7 @@ use mathlib.Core.Logic.{⊎-elim}
 use native.Mathlib.Omega.{arith}
 use lib.ListN.{length}
 use borrow.Author.Tests.{le-leb, eq-eqb, ne-eqb, lt-ltb}
+use Rattle.base.specs.Text.{text}
 use Rattle.base.specs.Test.{allBetween}
 use Rattle.state.specs.declared.Record.{Record}
 use Rattle.state.specs.declared.Place.the-variants.{At}
@@ -25,7 +26,7 @@ use Rattle.command.specs.declared.Request.{Request}
 use Rattle.command.specs.declared.Request.the-variants.{Status, Codes, Number, Recipe, Composition, Raw, Value, Level}
 use Rattle.command.specs.Word.{space, digits, equal}
 use Rattle.command.specs.Status.{statusCharacters, statusCodes, codesOn}
-use Rattle.command.specs.Commands.{codeIn, formed, digitsBetween, word, R-word, spaced, factorPlace, Change, _≔_, applied}
+use Rattle.command.specs.Commands.{codeIn, formed, digitsBetween, spaced, factorPlace, Change, _≔_, applied}
 use Rattle.command.specs.Answer.{Verdict, accepted, replyText, recordAfter}
 use Rattle.command.specs.Request.{requestFor, requestOf, volumeOf, placeFor, guarded, verdictFor, shows, changes, recordTo}
 use Rattle.command.proofs.Parsing.{value-digits, digits-all}
@@ -46,35 +47,35 @@ code-small c i e =
 
 -- ---- the requests that ask
 module _ (n : ℕ) where
-  status-asked : requestOf (digits 2 n ++ word 0x45 0x51) ≡ Status
+  status-asked : requestOf (digits 2 n ++ text "EQ") ≡ Status
   unfolding requestOf requestFor codeIn formed digits
   status-asked = refl
 
-  codes-asked : requestOf (digits 2 n ++ word 0x52 0x53) ≡ Codes
+  codes-asked : requestOf (digits 2 n ++ text "RS") ≡ Codes
   unfolding requestOf requestFor codeIn formed digits
   codes-asked = refl
 
-  number-asked : requestOf (digits 2 n ++ word 0x54 0x4e) ≡ Number
+  number-asked : requestOf (digits 2 n ++ text "TN") ≡ Number
   unfolding requestOf requestFor codeIn formed digits
   number-asked = refl
 
-  recipe-asked : requestOf (digits 2 n ++ word 0x52 0x52) ≡ Recipe
+  recipe-asked : requestOf (digits 2 n ++ text "RR") ≡ Recipe
   unfolding requestOf requestFor codeIn formed digits
   recipe-asked = refl
 
-  composition-asked : requestOf (digits 2 n ++ word 0x52 0x43) ≡ Composition
+  composition-asked : requestOf (digits 2 n ++ text "RC") ≡ Composition
   unfolding requestOf requestFor codeIn formed digits
   composition-asked = refl
 
-  raw-asked : requestOf (digits 2 n ++ spaced (word 0x52 0x54 ∷ R-word ∷ [])) ≡ Raw
+  raw-asked : requestOf (digits 2 n ++ spaced (text "RT" ∷ text "R" ∷ [])) ≡ Raw
   unfolding requestOf requestFor codeIn volumeOf formed digits equal
   raw-asked = refl
 
-  value-asked : (p : ℕ) → p < 1000 → requestOf (digits 2 n ++ spaced (word 0x50 0x56 ∷ digits 3 p ∷ [])) ≡ Value p
+  value-asked : (p : ℕ) → p < 1000 → requestOf (digits 2 n ++ spaced (text "PV" ∷ digits 3 p ∷ [])) ≡ Value p
   unfolding requestOf requestFor codeIn formed digitsBetween digits
   value-asked p h = simp (digits-all 3 p) (ap Value (value-digits 3 p h))
 
-  level-asked : (p : ℕ) → p < 1000 → requestOf (digits 2 n ++ spaced (word 0x58 0x56 ∷ digits 3 p ∷ [])) ≡ Level p
+  level-asked : (p : ℕ) → p < 1000 → requestOf (digits 2 n ++ spaced (text "XV" ∷ digits 3 p ∷ [])) ≡ Level p
   unfolding requestOf requestFor codeIn formed digitsBetween digits
   level-asked p h = simp (digits-all 3 p) (ap Level (value-digits 3 p h))
 
@@ -124,31 +125,31 @@ module _ (k : Kind) (s : Record) (o : List ℕ) (v : valid s ≡ true) (room : 6
       sym (record-by-steps t s) ∙ (ap (λ (z : Request). recordTo (verdictFor z s) z s) e ∙ (ap (λ (z : Verdict). recordTo z q s) ok ∙ ap (λ (z : List Change). applied z s) none)) in
       called t legal (named c d rest x y) (numbered c d rest) ∙ simp (reply-is, record-is)
 
-  two : (c d : ℕ) → allText (word c d) ≡ true → Text 2 58 (word c d)
-  two c d h = text-wider 2 2 2 58 (word c d) (omega arith) (omega arith) (text-word (word c d) h)
+  two : (c d : ℕ) → allText (c ∷ d ∷ []) ≡ true → Text 2 58 (c ∷ d ∷ [])
+  two c d h = text-wider 2 2 2 58 (c ∷ d ∷ []) (omega arith) (omega arith) (text-word (c ∷ d ∷ []) h)
 
-  pub status-read : Answers (word 0x45 0x51) (statusCharacters s)
+  pub status-read : Answers (text "EQ") (statusCharacters s)
   unfolding verdictFor guarded allBetween
   status-read = answers 0x45 0x51 [] Status refl refl (two 0x45 0x51 refl) (status-asked (s .address)) refl refl
 
-  pub codes-read : Answers (word 0x52 0x53) (word 0x52 0x53 ++ (space ∷ codesOn statusCodes s))
+  pub codes-read : Answers (text "RS") (text "RS" ++ (space ∷ codesOn statusCodes s))
   unfolding verdictFor guarded allBetween
   codes-read = answers 0x52 0x53 [] Codes refl refl (two 0x52 0x53 refl) (codes-asked (s .address)) refl refl
 
-  pub number-read : Answers (word 0x54 0x4e) (spaced (word 0x54 0x4e ∷ digits 4 (get number s) ∷ []))
+  pub number-read : Answers (text "TN") (spaced (text "TN" ∷ digits 4 (get number s) ∷ []))
   unfolding verdictFor guarded allBetween
   number-read = answers 0x54 0x4e [] Number refl refl (two 0x54 0x4e refl) (number-asked (s .address)) refl refl
 
-  pub recipe-read : Answers (word 0x52 0x52) (spaced (word 0x52 0x52 ∷ digits 2 (get recipe s) ∷ []))
+  pub recipe-read : Answers (text "RR") (spaced (text "RR" ∷ digits 2 (get recipe s) ∷ []))
   unfolding verdictFor guarded allBetween
   recipe-read = answers 0x52 0x52 [] Recipe refl refl (two 0x52 0x52 refl) (recipe-asked (s .address)) refl refl
 
-  pub composition-read : Answers (word 0x52 0x43)
-      (spaced (word 0x52 0x43 ∷ digits 2 (get recipe s) ∷ digits 8 (get (value (factorPlace (get recipe s))) s) ∷ []))
+  pub composition-read : Answers (text "RC")
+      (spaced (text "RC" ∷ digits 2 (get recipe s) ∷ digits 8 (get (value (factorPlace (get recipe s))) s) ∷ []))
   unfolding verdictFor guarded allBetween
   composition-read = answers 0x52 0x43 [] Composition refl refl (two 0x52 0x43 refl) (composition-asked (s .address)) refl refl
 
-  pub raw-read : Answers (spaced (word 0x52 0x54 ∷ R-word ∷ [])) (spaced (word 0x52 0x54 ∷ R-word ∷ digits 8 (get raw s) ∷ []))
+  pub raw-read : Answers (spaced (text "RT" ∷ text "R" ∷ [])) (spaced (text "RT" ∷ text "R" ∷ digits 8 (get raw s) ∷ []))
   unfolding verdictFor guarded allBetween
   raw-read =
       let t : List ℕ = 0x52 ∷ 0x54 ∷ 0x20 ∷ 0x52 ∷ [] in
@@ -161,13 +162,13 @@ module _ (k : Kind) (s : Record) (o : List ℕ) (v : valid s ≡ true) (room : 6
     coded : (c d : ℕ) → allText (c ∷ d ∷ space ∷ []) ≡ true → Text 2 58 (c ∷ d ∷ space ∷ digits 3 p)
     coded c d h = text-wider 6 6 2 58 _ (omega arith) (omega arith) (text-labelled (c ∷ d ∷ space ∷ []) 3 p h)
 
-    pub value-read : Answers (spaced (word 0x50 0x56 ∷ digits 3 p ∷ [])) (spaced (word 0x50 0x56 ∷ digits 3 p ∷ digits 8 (get (value (placeFor p)) s) ∷ []))
+    pub value-read : Answers (spaced (text "PV" ∷ digits 3 p ∷ [])) (spaced (text "PV" ∷ digits 3 p ∷ digits 8 (get (value (placeFor p)) s) ∷ []))
     unfolding verdictFor guarded allBetween
     value-read =
         answers 0x50 0x56 (space ∷ digits 3 p) (Value p) refl refl (coded 0x50 0x56 refl) (value-asked (s .address) p (code-small p i e))
         (simp (e, lt-ltb i parameterCount listed-so)) refl
 
-    pub level-read : Answers (spaced (word 0x58 0x56 ∷ digits 3 p ∷ [])) (spaced (word 0x58 0x56 ∷ digits 3 p ∷ digits 1 (get (level (placeFor p)) s) ∷ []))
+    pub level-read : Answers (spaced (text "XV" ∷ digits 3 p ∷ [])) (spaced (text "XV" ∷ digits 3 p ∷ digits 1 (get (level (placeFor p)) s) ∷ []))
     unfolding verdictFor guarded allBetween
     level-read =
         answers 0x58 0x56 (space ∷ digits 3 p) (Level p) refl refl (coded 0x58 0x56 refl) (level-asked (s .address) p (code-small p i e))
@@ -175,7 +176,7 @@ module _ (k : Kind) (s : Record) (o : List ℕ) (v : valid s ≡ true) (room : 6
 
 -- RC shows two numbers
 pub composition-same : (a b x y : ℕ) → a ≡ b → x ≡ y
-    → spaced (word 0x52 0x43 ∷ digits 2 a ∷ digits 8 x ∷ []) ≡ spaced (word 0x52 0x43 ∷ digits 2 b ∷ digits 8 y ∷ [])
+    → spaced (text "RC" ∷ digits 2 a ∷ digits 8 x ∷ []) ≡ spaced (text "RC" ∷ digits 2 b ∷ digits 8 y ∷ [])
 composition-same a b x y e f = cc
 
 -- ---- a field after changes

@@ -8,6 +8,7 @@ use native.Mathlib.Omega.{arith}
 use lib.Dec.{eqb, leb}
 use lib.ListN.{length, take, getD}
 use borrow.Author.Tests.{leb-true}
+use Rattle.base.specs.Text.{text}
 use Rattle.state.specs.declared.Record.{Record}
 use Rattle.state.specs.declared.Place.{Place}
 use Rattle.state.specs.declared.Place.the-variants.{At, Nothing}
@@ -26,7 +27,7 @@ use Rattle.frame.proofs.Laws.{frame-length, framed-built}
 use Rattle.frame.proofs.RoundTrip.{read-built}
 use Rattle.command.specs.Word.{space, digits}
 use Rattle.command.specs.Status.{weight, statusCharacters, codesOn}
-use Rattle.command.specs.Commands.{PV, XV, PC, XC, NR, SB, SA, SP, ET, RE, codeIn, commands, rowOf, word, R-word, spaced, parameterIn, placeIn, numberIn, secondIn, factorPlace, flagNamed, Change, _≔_}
+use Rattle.command.specs.Commands.{PV, XV, PC, XC, NR, SB, SA, SP, ET, RE, codeIn, commands, rowOf, spaced, parameterIn, placeIn, numberIn, secondIn, factorPlace, flagNamed, Change, _≔_}
 use Rattle.command.specs.Refusals.{refusals, rowNumber, applies, isNowhere}
 use Rattle.command.specs.Answer.{Verdict, NO, verdict, recordFor, replyText, recordAfter}
 use Rattle.command.specs.Answer as tables
@@ -253,15 +254,15 @@ module _ (k k′ : Kind) (r : Record) (q o o′ : List ℕ) (heard : callOf k r 
     value-address = other-value address (λ z. omega arith)
 
   pub value-after-value : codeIn written ≡ PC
-      → Shows (spaced (word 0x50 0x56 ∷ digits 3 (parameterIn written) ∷ [])) (spaced (word 0x50 0x56 ∷ digits 3 (parameterIn written) ∷ digits 8 (secondIn written) ∷ []))
+      → Shows (spaced (text "PV" ∷ digits 3 (parameterIn written) ∷ [])) (spaced (text "PV" ∷ digits 3 (parameterIn written) ∷ digits 8 (secondIn written) ∷ []))
   unfolding placeIn
   value-after-value c =
       let (i, e) = placed (ap of-parameter c) in
       shows-so _ _ _ (value-read k′ next o′ valid-next room (parameterIn written) i e) (value-address c)
-      (ap (λ (n : ℕ). spaced (word 0x50 0x56 ∷ digits 3 (parameterIn written) ∷ digits 8 n ∷ [])) (new-value c))
+      (ap (λ (n : ℕ). spaced (text "PV" ∷ digits 3 (parameterIn written) ∷ digits 8 n ∷ [])) (new-value c))
 
   pub composition-after-value : codeIn written ≡ PC → placeIn written ≡ factorPlace (get recipe r)
-      → Shows (word 0x52 0x43) (spaced (word 0x52 0x43 ∷ digits 2 (get recipe r) ∷ digits 8 (secondIn written) ∷ []))
+      → Shows (text "RC") (spaced (text "RC" ∷ digits 2 (get recipe r) ∷ digits 8 (secondIn written) ∷ []))
   unfolding numberAfter
   composition-after-value c e =
       let same : get recipe next ≡ get recipe r = other-value c recipe (λ z. omega arith) in
@@ -274,14 +275,14 @@ module _ (k k′ : Kind) (r : Record) (q o o′ : List ℕ) (heard : callOf k r 
   unfolding rowOf
   after-recipe c = left ((recipe ≔ numberIn written) ∷ []) (simp c)
 
-  pub recipe-after-recipe : codeIn written ≡ NR → Shows (word 0x52 0x52) (spaced (word 0x52 0x52 ∷ digits 2 (numberIn written) ∷ []))
+  pub recipe-after-recipe : codeIn written ≡ NR → Shows (text "RR") (spaced (text "RR" ∷ digits 2 (numberIn written) ∷ []))
   unfolding numberAfter
   recipe-after-recipe c =
       shows-so _ _ _ (recipe-read k′ next o′ valid-next room) (after-recipe c address)
-      (ap (λ (n : ℕ). spaced (word 0x52 0x52 ∷ digits 2 n ∷ [])) (after-recipe c recipe))
+      (ap (λ (n : ℕ). spaced (text "RR" ∷ digits 2 n ∷ [])) (after-recipe c recipe))
 
   pub composition-after-recipe : codeIn written ≡ NR
-      → Shows (word 0x52 0x43) (spaced (word 0x52 0x43 ∷ digits 2 (numberIn written) ∷ digits 8 (get (value (factorPlace (numberIn written))) r) ∷ []))
+      → Shows (text "RC") (spaced (text "RC" ∷ digits 2 (numberIn written) ∷ digits 8 (get (value (factorPlace (numberIn written))) r) ∷ []))
   unfolding numberAfter
   composition-after-recipe c =
       let new : get recipe next ≡ numberIn written = after-recipe c recipe in
@@ -296,13 +297,13 @@ module _ (k k′ : Kind) (r : Record) (q o o′ : List ℕ) (heard : callOf k r 
   after-level c = left ((level (placeIn written) ≔ secondIn written) ∷ []) (simp c)
 
   pub level-after-level : codeIn written ≡ XC
-      → Shows (spaced (word 0x58 0x56 ∷ digits 3 (parameterIn written) ∷ [])) (spaced (word 0x58 0x56 ∷ digits 3 (parameterIn written) ∷ digits 1 (secondIn written) ∷ []))
+      → Shows (spaced (text "XV" ∷ digits 3 (parameterIn written) ∷ [])) (spaced (text "XV" ∷ digits 3 (parameterIn written) ∷ digits 1 (secondIn written) ∷ []))
   unfolding placeIn numberAfter
   level-after-level c =
       let (i, e) = placed (ap of-parameter c) in
       shows-so _ _ _ (level-read k′ next o′ valid-next room (parameterIn written) i e)
       (after-level c address ∙ skipped (level (placeIn written)) address (secondIn written) [] r (λ z. omega arith))
-      (ap (λ (n : ℕ). spaced (word 0x58 0x56 ∷ digits 3 (parameterIn written) ∷ digits 1 n ∷ []))
+      (ap (λ (n : ℕ). spaced (text "XV" ∷ digits 3 (parameterIn written) ∷ digits 1 n ∷ []))
       (after-level c (level (placeIn written)) ∙ shown-first (level (placeIn written)) (secondIn written) [] r))
 
   -- SB
@@ -312,23 +313,23 @@ module _ (k k′ : Kind) (r : Record) (q o o′ : List ℕ) (heard : callOf k r 
   after-batch c = left ((phase ≔ set) ∷ (preset ≔ numberIn written) ∷ (raw ≔ 0) ∷ (reset ≔ on) ∷ (number ≔ nextNumber (get number r)) ∷ []) (simp c)
 
   -- SB takes 9999 to 1
-  pub number-after-batch : codeIn written ≡ SB → Shows (word 0x54 0x4e) (spaced (word 0x54 0x4e ∷ digits 4 (nextNumber (get number r)) ∷ []))
+  pub number-after-batch : codeIn written ≡ SB → Shows (text "TN") (spaced (text "TN" ∷ digits 4 (nextNumber (get number r)) ∷ []))
   unfolding numberAfter
   number-after-batch c =
       shows-so _ _ _ (number-read k′ next o′ valid-next room) (after-batch c address)
-      (ap (λ (n : ℕ). spaced (word 0x54 0x4e ∷ digits 4 n ∷ [])) (after-batch c number))
+      (ap (λ (n : ℕ). spaced (text "TN" ∷ digits 4 n ∷ [])) (after-batch c number))
 
-  pub raw-after-batch : codeIn written ≡ SB → Shows (spaced (word 0x52 0x54 ∷ R-word ∷ [])) (spaced (word 0x52 0x54 ∷ R-word ∷ digits 8 0 ∷ []))
+  pub raw-after-batch : codeIn written ≡ SB → Shows (spaced (text "RT" ∷ text "R" ∷ [])) (spaced (text "RT" ∷ text "R" ∷ digits 8 0 ∷ []))
   unfolding numberAfter
   raw-after-batch c =
       shows-so _ _ _ (raw-read k′ next o′ valid-next room) (after-batch c address)
-      (ap (λ (n : ℕ). spaced (word 0x52 0x54 ∷ R-word ∷ digits 8 n ∷ [])) (after-batch c raw))
+      (ap (λ (n : ℕ). spaced (text "RT" ∷ text "R" ∷ digits 8 n ∷ [])) (after-batch c raw))
 
   -- EQ and RS after a write, with the phase and the two flags that it leaves
   abbrev pub StatusShows : ℕ → ℕ → ℕ → Type 0
   StatusShows p c b =
-      Shows (word 0x45 0x51) (statusFrom p (get keypad r) (get flow r) c b (get powerfail r))
-      × Shows (word 0x52 0x53) (word 0x52 0x53 ++ (space ∷ codesFrom p (get keypad r) (get flow r) c b (get powerfail r)))
+      Shows (text "EQ") (statusFrom p (get keypad r) (get flow r) c b (get powerfail r))
+      × Shows (text "RS") (text "RS" ++ (space ∷ codesFrom p (get keypad r) (get flow r) c b (get powerfail r)))
 
   -- by the six fields that they show
   status-so : (p c b : ℕ) → get address next ≡ get address r → get phase next ≡ p → get keypad next ≡ get keypad r → get flow next ≡ get flow r
@@ -337,7 +338,7 @@ module _ (k k′ : Kind) (r : Record) (q o o′ : List ℕ) (heard : callOf k r 
   status-so p c b e f₁ f₂ f₃ f₄ f₅ f₆ = (
     shows-so _ _ _ (status-read k′ next o′ valid-next room) e (by-fields statusFrom f₁ f₂ f₃ f₄ f₅ f₆),
     shows-so _ _ _ (codes-read k′ next o′ valid-next room) e
-        (ap (λ (x : List ℕ). word 0x52 0x53 ++ (space ∷ x)) (by-fields codesFrom f₁ f₂ f₃ f₄ f₅ f₆)),
+        (ap (λ (x : List ℕ). text "RS" ++ (space ∷ x)) (by-fields codesFrom f₁ f₂ f₃ f₄ f₅ f₆)),
   )
     where
       by-fields : (F : ℕ → ℕ → ℕ → ℕ → ℕ → ℕ → List ℕ) {a₁ a₂ a₃ a₄ a₅ a₆ b₁ b₂ b₃ b₄ b₅ b₆ : ℕ} → a₁ ≡ b₁ → a₂ ≡ b₂ → a₃ ≡ b₃ → a₄ ≡ b₄ → a₅ ≡ b₅ → a₆ ≡ b₆

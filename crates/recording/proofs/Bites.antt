@@ -8,6 +8,7 @@ use mathlib.Core.Logic.{⊎-elim}
 use native.Mathlib.Omega.{arith}
 use lib.Dec.{ltb}
 use lib.ListN.{length, take, drop, getD, replicate}
+use Rattle.base.specs.Text.{text}
 use Rattle.base.specs.Test.{allBetween}
 use Rattle.base.specs.Lists.{over}
 use Rattle.state.specs.declared.Record.{Record}
@@ -20,7 +21,7 @@ use Rattle.frame.proofs.Laws.{over-take}
 use Rattle.command.specs.Word.{digits, valueFrom}
 use Rattle.command.specs.Status.{statusCharacters}
 use Rattle.command.specs.Commands as commands
-use Rattle.command.specs.Commands.{codeIn, digitsBetween, formed, parameterIn, numberIn, secondIn, applied, rowOf, word, spaced}
+use Rattle.command.specs.Commands.{codeIn, digitsBetween, formed, parameterIn, numberIn, secondIn, applied, rowOf, spaced}
 use Rattle.command.specs.Answer.{Verdict, NO, firstOf, verdict, replyFor, replyText, recordAfter}
 use Rattle.command.specs.Answer as answer
 use Rattle.command.specs.Bench.{bench}
@@ -90,8 +91,8 @@ status-heard : (r : Record) (a : List ℕ) → valid r ≡ true → get address 
 unfolding frameOf xorFrom digits bytes check
 status-heard r a v i h =
     let o : List ℕ = replicate 64 0 in
-    let answers : AnswersAt Minicomputer r o 1 (word 0x45 0x51) (statusCharacters r) =
-    subst (λ (n : ℕ). AnswersAt Minicomputer r o n (word 0x45 0x51) (statusCharacters r)) i (status-read Minicomputer r o v (omega arith)) in
+    let answers : AnswersAt Minicomputer r o 1 (text "EQ") (statusCharacters r) =
+    subst (λ (n : ℕ). AnswersAt Minicomputer r o n (text "EQ") (statusCharacters r)) i (status-read Minicomputer r o v (omega arith)) in
     heard-frame r (framed "01EQ" gets a) o _ r answers (h o refl)
 
 -- ---- recordings that no record fits
@@ -166,8 +167,8 @@ lost-refuted c h =
     let told = g .0 o refl .0 in
     let after : Record = next r (q gets framed "01OK") in
     let shown = recipe-after-recipe Minicomputer Minicomputer r q o o (answered r q o told .heard) (accepted-so r q o told) (omega arith) refl in
-    let answers : AnswersAt Minicomputer after o 1 (word 0x52 0x52) (spaced (word 0x52 0x52 ∷ digits 2 3 ∷ [])) =
-    subst (λ (n : ℕ). AnswersAt Minicomputer after o n (word 0x52 0x52) (spaced (word 0x52 0x52 ∷ digits 2 3 ∷ []))) (s .same-address) shown in
+    let answers : AnswersAt Minicomputer after o 1 (text "RR") (spaced (text "RR" ∷ digits 2 3 ∷ [])) =
+    subst (λ (n : ℕ). AnswersAt Minicomputer after o n (text "RR") (spaced (text "RR" ∷ digits 2 3 ∷ []))) (s .same-address) shown in
     let z = ap (λ (f : List ℕ). getD f 7 0) (heard-frame after (framed "01RR" gets framed "01RR 04") o _ after answers (g .1 .0 o refl)) in
     omega arith
 

@@ -7,6 +7,7 @@ use mathlib.Core.List.{List, [], _∷_, _++_}
 use native.Mathlib.Omega.{arith}
 use lib.ListN.{length, take, drop, take-append-drop}
 use lib.Seq.{take-at, drop-at}
+use Rattle.base.specs.Text.{text}
 use Rattle.base.specs.Test.{unless, between}
 use Rattle.base.proofs.Tests.{between-low, between-high}
 use Rattle.state.specs.declared.Record.{Record}
@@ -38,7 +39,7 @@ abbrev factor : Record → ℕ
 factor r = get (value (factorPlace (get recipe r))) r
 
 abbrev start : Record → List ℕ
-start r = label 0x52 0x43 ++ digits 2 (get recipe r)
+start r = text "RC " ++ digits 2 (get recipe r)
 
 module _ {a c : ℕ} (k : Knowledge) (kept : Kept a c k) where
   factor-kept : (n : ℕ) (e : Digits) → Kept a c (factorShown n e k)
@@ -90,8 +91,8 @@ module _ {a c : ℕ} (k : Knowledge) (kept : Kept a c k) where
     pub both-told : (b : List ℕ) → Possible (shown Composition b k) r → Possible k r × (shows Composition r ≡ b)
     unfolding shown
     both-told b p =
-        let t = composition-told (numberBehind (label 0x52 0x43) 2 (take 5 b)) (numberBehind (space ∷ []) 8 (drop 5 b)) p in
-        let x = behind-told (label 0x52 0x43) 2 (take 5 b) (get recipe r) (t .1) in
+        let t = composition-told (numberBehind (text "RC ") 2 (take 5 b)) (numberBehind (space ∷ []) 8 (drop 5 b)) p in
+        let x = behind-told (text "RC ") 2 (take 5 b) (get recipe r) (t .1) in
         let y = behind-told (space ∷ []) 8 (drop 5 b) (factor r) (t .2) in
         (t .0, ap (λ (l : List ℕ). l ++ (space ∷ digits 8 (factor r))) (sym (x .0)) ∙ ap (λ (l : List ℕ). take 5 b ++ l) (sym (y .0)) ∙ take-append-drop 5 b)
 
@@ -99,9 +100,9 @@ module _ {a c : ℕ} (k : Knowledge) (kept : Kept a c k) where
     unfolding shown
     both-left p =
         let five : length (start r) ≡ 5 = omega (arith, digits-length 2 (get recipe r)) in
-        let x : numberBehind (label 0x52 0x43) 2 (take 5 (shows Composition r)) ≡ digitsRead.Number (get recipe r) =
-        ap (numberBehind (label 0x52 0x43) 2) (take-at (start r) (space ∷ digits 8 (factor r)) 5 five) ∙
-        behind-left (label 0x52 0x43) 2 (get recipe r) (omega arith) (recipe-fits r (p .sound)) in
+        let x : numberBehind (text "RC ") 2 (take 5 (shows Composition r)) ≡ digitsRead.Number (get recipe r) =
+        ap (numberBehind (text "RC ") 2) (take-at (start r) (space ∷ digits 8 (factor r)) 5 five) ∙
+        behind-left (text "RC ") 2 (get recipe r) (omega arith) (recipe-fits r (p .sound)) in
         let y : numberBehind (space ∷ []) 8 (drop 5 (shows Composition r)) ≡ digitsRead.Number (factor r) =
         ap (numberBehind (space ∷ []) 8) (drop-at (start r) (space ∷ digits 8 (factor r)) 5 five) ∙
         behind-left (space ∷ []) 8 (factor r) (omega arith) (value-fits r (p .sound) (factorPlace (get recipe r)) (factor-held (get recipe r) (recipe-known r (p .sound)))) in

@@ -8,6 +8,7 @@ use native.Mathlib.Omega.{arith}
 use lib.Dec.{ltb}
 use lib.ListN.{take, drop}
 use borrow.Author.Tests.{ltb-true}
+use Rattle.base.specs.Text.{text}
 use Rattle.base.specs.Test.{pick, unless}
 use Rattle.state.specs.declared.Record.{Record}
 use Rattle.state.specs.Parameter.{parameterCount}
@@ -18,7 +19,7 @@ use Rattle.command.specs.declared.Request.the-variants.{Unknown, Malformed, Not
 use Rattle.command.specs.declared.Digits.the-variants as digitsRead
 use Rattle.command.specs.Word.{space, digits, equal}
 use Rattle.command.specs.Status.{statusCharacters}
-use Rattle.command.specs.Commands.{word, spaced, OK}
+use Rattle.command.specs.Commands.{spaced, OK}
 use Rattle.command.specs.Answer.{NO, accepted}
 use Rattle.command.specs.Request.{placeFor, byItself, shows}
 use Rattle.command.proofs.Parsing.{equal-true}
@@ -36,17 +37,17 @@ use Rattle.showing.proofs.Widths.{number-fits, recipe-fits, raw-fits, v
 use Rattle.showing.proofs.Composition.{composition-kept, both-told, both-left}
 
 -- ---- refusals
-pub refusal-told : (b : List ℕ) (n : ℕ) → refusalIn b ≡ digitsRead.Number n → (b ≡ word 0x4e 0x4f ++ digits 2 n) × (n < 100)
+pub refusal-told : (b : List ℕ) (n : ℕ) → refusalIn b ≡ digitsRead.Number n → (b ≡ text "NO" ++ digits 2 n) × (n < 100)
 unfolding refusalIn
-refusal-told b n e = behind-told (word 0x4e 0x4f) 2 b n e
+refusal-told b n e = behind-told (text "NO") 2 b n e
 
-pub refusal-left : (n : ℕ) → n < 100 → refusalIn (word 0x4e 0x4f ++ digits 2 n) ≡ digitsRead.Number n
+pub refusal-left : (n : ℕ) → n < 100 → refusalIn (text "NO" ++ digits 2 n) ≡ digitsRead.Number n
 unfolding refusalIn
-refusal-left n h = behind-left (word 0x4e 0x4f) 2 n (omega arith) h
+refusal-left n h = behind-left (text "NO") 2 n (omega arith) h
 
-no-refusal : (b : List ℕ) → equal (take 2 b) (word 0x4e 0x4f) ≡ false → refusalIn b ≡ digitsRead.Nothing
+no-refusal : (b : List ℕ) → equal (take 2 b) (text "NO") ≡ false → refusalIn b ≡ digitsRead.Nothing
 unfolding refusalIn
-no-refusal b e = behind-none (word 0x4e 0x4f) 2 b e
+no-refusal b e = behind-none (text "NO") 2 b e
 
 pub shows-no-refusal : (q : Request) (r : Record) → byItself q ≡ accepted → refusalIn (shows q r) ≡ digitsRead.Nothing
 unfolding refusalIn numberBehind statusCharacters equal
@@ -72,7 +73,7 @@ shows-no-refusal ClearReset r h = refl
 shows-no-refusal ClearChanged r h = refl
 
 -- ---- a parameter's number behind its label
-parameter-spaced : (x y p width n : ℕ) → parameterLabel x y p ++ digits width n ≡ spaced (word x y ∷ digits 3 p ∷ digits width n ∷ [])
+parameter-spaced : (x y p width n : ℕ) → parameterLabel x y p ++ digits width n ≡ spaced ((x ∷ y ∷ []) ∷ digits 3 p ∷ digits width n ∷ [])
 parameter-spaced x y p width n = ap (λ (l : List ℕ). x ∷ y ∷ space ∷ l) (append-assoc (digits 3 p) (space ∷ []) (digits width n))
 
 -- ---- an accepted request
@@ -120,9 +121,9 @@ shown-kept Malformed b k kept h = dead-kept k kept
 shown-kept NotServed b k kept h = dead-kept k kept
 shown-kept Status b k kept h = status-kept k kept b
 shown-kept Codes b k kept h = list-kept k kept b
-shown-kept Number b k kept h = number-kept k number kept (omega arith) (numberBehind (label 0x54 0x4e) 4 b) (omega arith)
-shown-kept Recipe b k kept h = number-kept k recipe kept (omega arith) (numberBehind (label 0x52 0x52) 2 b) (omega arith)
-shown-kept Composition b k kept h = composition-kept k kept (numberBehind (label 0x52 0x43) 2 (take 5 b)) (numberBehind (space ∷ []) 8 (drop 5 b))
+shown-kept Number b k kept h = number-kept k number kept (omega arith) (numberBehind (text "TN ") 4 b) (omega arith)
+shown-kept Recipe b k kept h = number-kept k recipe kept (omega arith) (numberBehind (text "RR ") 2 b) (omega arith)
+shown-kept Composition b k kept h = composition-kept k kept (numberBehind (text "RC ") 2 (take 5 b)) (numberBehind (space ∷ []) 8 (drop 5 b))
 shown-kept Raw b k kept h = number-kept k raw kept (omega arith) (numberBehind rawLabel 8 b) (omega arith)
 shown-kept (Value p) b k kept h =
     number-kept k (value (placeFor p)) kept (value-held p h) (numberBehind (parameterLabel 0x50 0x56 p) 8 b) (omega arith)
@@ -146,8 +147,8 @@ shown-told Malformed b k r kept h p = absurd (dead-none k r p)
 shown-told NotServed b k r kept h p = absurd (dead-none k r p)
 shown-told Status b k r kept h p = status-told k kept r b p
 shown-told Codes b k r kept h p = list-told k kept r b p
-shown-told Number b k r kept h p = printed-told k number kept (omega arith) r (label 0x54 0x4e) 4 b p
-shown-told Recipe b k r kept h p = printed-told k recipe kept (omega arith) r (label 0x52 0x52) 2 b p
+shown-told Number b k r kept h p = printed-told k number kept (omega arith) r (text "TN ") 4 b p
+shown-told Recipe b k r kept h p = printed-told k recipe kept (omega arith) r (text "RR ") 2 b p
 shown-told Composition b k r kept h p = both-told k kept r b p
 shown-told Raw b k r kept h p = printed-told k raw kept (omega arith) r rawLabel 8 b p
 shown-told (Value p) b k r kept h t =
@@ -174,8 +175,8 @@ own-left Malformed k r kept h p = absurd (refused 1 h)
 own-left NotServed k r kept h p = absurd (refused 8 h)
 own-left Status k r kept h p = status-left k kept r p
 own-left Codes k r kept h p = list-left k kept r p
-own-left Number k r kept h p = printed-left k number kept (omega arith) r (label 0x54 0x4e) 4 (omega arith) (number-fits r (p .sound)) p
-own-left Recipe k r kept h p = printed-left k recipe kept (omega arith) r (label 0x52 0x52) 2 (omega arith) (recipe-fits r (p .sound)) p
+own-left Number k r kept h p = printed-left k number kept (omega arith) r (text "TN ") 4 (omega arith) (number-fits r (p .sound)) p
+own-left Recipe k r kept h p = printed-left k recipe kept (omega arith) r (text "RR ") 2 (omega arith) (recipe-fits r (p .sound)) p
 own-left Composition k r kept h p = both-left k kept r p
 own-left Raw k r kept h p = printed-left k raw kept (omega arith) r rawLabel 8 (omega arith) (raw-fits r (p .sound)) p
 own-left (Value p) k r kept h t =

@@ -9,6 +9,7 @@ use lib.Dec.{eqb}
 use lib.ListN.{length, take, drop, length-append, length-drop, take-append-drop, drop-of-length-le}
 use lib.Seq.{take-at, drop-drop, take-append-seam, drop-append-seam}
 use borrow.Author.Tests.{eq-eqb, eqb-true, not-true}
+use Rattle.base.specs.Text.{text}
 use Rattle.base.specs.Test.{pick, unless}
 use Rattle.base.proofs.Tests.{and-left, and-right}
 use Rattle.state.specs.declared.Record.{Record}
@@ -177,7 +178,7 @@ codes-left b (d ∷ cs) s r h kept l p e =
 module _ {a c : ℕ} (k : Knowledge) (kept : Kept a c k) where
   pub list-kept : (b : List ℕ) → Kept a c (listShown b k)
   unfolding listShown
-  list-kept b = start (equal (take 3 b) (label 0x52 0x53))
+  list-kept b = start (equal (take 3 b) (text "RS "))
     where
       end : (t : Bool) (s : Walk) → Kept a c (s .known) → Kept a c (unless t (dead (s .known)) (s .known))
       end true s h = h
@@ -189,32 +190,32 @@ module _ {a c : ℕ} (k : Knowledge) (kept : Kept a c k) where
       start false = dead-kept k kept
 
   module _ (r : Record) where
-    pub list-told : (b : List ℕ) → Possible (listShown b k) r → Possible k r × (label 0x52 0x53 ++ codesOn statusCodes r ≡ b)
+    pub list-told : (b : List ℕ) → Possible (listShown b k) r → Possible k r × (text "RS " ++ codesOn statusCodes r ≡ b)
     unfolding listShown
-    list-told b = start (equal (take 3 b) (label 0x52 0x53)) refl
+    list-told b = start (equal (take 3 b) (text "RS ")) refl
       where
         end : (t : Bool) (s : Walk) → eqb (s .at) (length b) ≡ t → Possible (unless t (dead (s .known)) (s .known)) r
             → Possible (s .known) r × (s .at ≡ length b)
         end true s e p = (p, eqb-true _ _ e)
         end false s e p = absurd (dead-none (s .known) r p)
 
-        start : (t : Bool) → equal (take 3 b) (label 0x52 0x53) ≡ t → Possible (unless t (dead k) (ended b (codesShown b codes (walk 3 k)))) r
-            → Possible k r × (label 0x52 0x53 ++ codesOn statusCodes r ≡ b)
+        start : (t : Bool) → equal (take 3 b) (text "RS ") ≡ t → Possible (unless t (dead k) (ended b (codesShown b codes (walk 3 k)))) r
+            → Possible k r × (text "RS " ++ codesOn statusCodes r ≡ b)
         start true e p =
-            let w : take 3 b ≡ label 0x52 0x53 = equal-true _ _ e in
+            let w : take 3 b ≡ text "RS " = equal-true _ _ e in
             let f = end (eqb (codesShown b codes (walk 3 k) .at) (length b)) (codesShown b codes (walk 3 k)) refl p in
             let t = codes-told b codes (walk 3 k) r codes-distinct kept (f .0) (f .1) in (
               t .0,
-              ap (λ (l : List ℕ). label 0x52 0x53 ++ l) (t .1) ∙ ap (λ (l : List ℕ). l ++ drop 3 b) (sym w) ∙ take-append-drop 3 b,
+              ap (λ (l : List ℕ). text "RS " ++ l) (t .1) ∙ ap (λ (l : List ℕ). l ++ drop 3 b) (sym w) ∙ take-append-drop 3 b,
             )
         start false e p = absurd (dead-none k r p)
 
-    pub list-left : Possible k r → Possible (listShown (label 0x52 0x53 ++ codesOn statusCodes r) k) r
+    pub list-left : Possible k r → Possible (listShown (text "RS " ++ codesOn statusCodes r) k) r
     unfolding listShown equal
     list-left p = end
       where
         b : List ℕ
-        b = label 0x52 0x53 ++ codesOn statusCodes r
+        b = text "RS " ++ codesOn statusCodes r
 
         t : Possible (codesShown b codes (walk 3 k) .known) r × (codesShown b codes (walk 3 k) .at ≡ length b)
         t = codes-left b codes (walk 3 k) r codes-distinct kept (omega arith) p refl

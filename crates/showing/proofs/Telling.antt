@@ -8,6 +8,7 @@ use lib.Dec.{eqb}
 use lib.ListN.{length, take, drop, length-take, length-drop}
 use lib.Seq.{take-all}
 use borrow.Author.Tests.{not-true, not-false}
+use Rattle.base.specs.Text.{text}
 use Rattle.base.specs.Test.{pick, between}
 use Rattle.base.proofs.Tests.{between-low, between-high}
 use Rattle.state.specs.declared.Range.{Range}
@@ -100,7 +101,7 @@ module _ (s : List ℕ) (k r : Knowledge) where
   both-short l h =
       let m : length (take 5 s) < 5 = simp length-take (omega arith) in
       h ∙ ap (λ (d : Digits). compositionShown d (numberBehind (0x20 ∷ []) 8 (drop 5 s)) k)
-      (behind-length (label 0x52 0x43) (take 5 s) 2 (λ e. omega arith))
+      (behind-length (text "RC ") (take 5 s) 2 (λ e. omega arith))
 
   pub both-read : (d f : Digits) → d ≡ numberBehind (0x52 ∷ 0x43 ∷ 0x20 ∷ []) 2 (take 5 s)
       → f ≡ numberBehind (0x20 ∷ []) 8 (take (length s - 5) (drop 5 s)) → r ≡ compositionShown d f k → r ≡ shown request.Composition s k
@@ -108,7 +109,7 @@ module _ (s : List ℕ) (k r : Knowledge) where
   both-read d f e z h =
       let t : take (length s - 5) (drop 5 s) ≡ drop 5 s = take-all (length s - 5) (drop 5 s) (omega (arith, length-drop 5 s)) in
       h ∙ (ap (λ (x : Digits). compositionShown x f k) e
-      ∙ ap (λ (x : Digits). compositionShown (numberBehind (label 0x52 0x43) 2 (take 5 s)) x k) (z ∙ ap (numberBehind (0x20 ∷ []) 8) t))
+      ∙ ap (λ (x : Digits). compositionShown (numberBehind (text "RC ") 2 (take 5 s)) x k) (z ∙ ap (numberBehind (0x20 ∷ []) 8) t))
 
 pub ruleset both-known = (both-short, both-read)
 

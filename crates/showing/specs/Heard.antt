@@ -4,11 +4,11 @@ use mathlib.Core.Bool.{Bool, _&&_}
 use mathlib.Core.List.{List, [], _∷_, _++_}
 use lib.Dec.{eqb}
 use lib.ListN.{length, getD, take, drop}
+use Rattle.base.specs.Text.{text}
 use Rattle.base.specs.Test.{pick, between}
 use Rattle.command.specs.declared.Digits.{Digits}
 use Rattle.command.specs.declared.Digits.the-variants.{Nothing}
 use Rattle.command.specs.Word.{space, digits, equal}
-use Rattle.command.specs.Commands.{word, R-word}
 use Rattle.command.specs.Request.{numberFor}
 
 -- a number of so many digits behind a word, and nothing else
@@ -17,14 +17,14 @@ numberBehind w width b = pick (eqb (length b) (length w + width) && equal (take 
 
 -- "reply NO and two digits"
 unfoldable pub refusalIn : List ℕ → Digits
-refusalIn b = numberBehind (word 0x4e 0x4f) 2 b
+refusalIn b = numberBehind (text "NO") 2 b
 
 -- the words before the numbers: "TN ", "RR ", "RC ", "RT R ", "PV ppp ", "XV ppp "
 abbrev pub label : ℕ → ℕ → List ℕ
-label x y = word x y ++ (space ∷ [])
+label x y = x ∷ y ∷ space ∷ []
 
 abbrev pub rawLabel : List ℕ
-rawLabel = label 0x52 0x54 ++ (R-word ++ (space ∷ []))
+rawLabel = text "RT R "
 
 abbrev pub parameterLabel : ℕ → ℕ → ℕ → List ℕ
 parameterLabel x y p = label x y ++ (digits 3 p ++ (space ∷ []))

@@ -1,9 +1,11 @@
 -- What the reply to an accepted request shows.
 use Prim.Native.Nat.{ℕ, _+_}
+use Prim.Native.String.{String}
 use mathlib.Core.Bool.{Bool, not, _&&_}
 use mathlib.Core.List.{List, [], _∷_, _++_}
 use lib.Dec.{eqb}
 use lib.ListN.{length, take, drop}
+use Rattle.base.specs.Text.{text}
 use Rattle.base.specs.Test.{pick, unless, between, member}
 use Rattle.state.specs.declared.Range.{Range}
 use Rattle.state.specs.Parameter.{recipes}
@@ -15,7 +17,7 @@ use Rattle.command.specs.declared.Request.the-variants.{Unknown, Malformed, Not
 use Rattle.command.specs.declared.Digits.{Digits}
 use Rattle.command.specs.declared.Digits.the-variants as digitsRead
 use Rattle.command.specs.Word.{space, equal}
-use Rattle.command.specs.Commands.{factorPlace, word, OK}
+use Rattle.command.specs.Commands.{factorPlace, OK}
 use Rattle.command.specs.Request.{placeFor}
 use Rattle.knowledge.specs.declared.Knowledge.{Knowledge}
 use Rattle.knowledge.specs.Sets.{Kind, several, single, kindOf, maskOf, maskIn}
@@ -102,19 +104,19 @@ pub record Code : Type 0 where
   pub field : Field
   pub holds : ℕ → Bool
 
-abbrev pub codeOf : ℕ → ℕ → Field → (ℕ → Bool) → Code
-codeOf x y f p = record { letters = word x y; field = f; holds = p }
+abbrev pub codeOf : String → Field → (ℕ → Bool) → Code
+codeOf s f p = record { letters = text s; field = f; holds = p }
 
 abbrev pub codes : List Code
 codes =
-    codeOf 0x46 0x4c flow isOn
-    ∷ codeOf 0x42 0x44 reset isOn
-    ∷ codeOf 0x50 0x43 changed isOn
-    ∷ codeOf 0x50 0x46 powerfail isOn
-    ∷ codeOf 0x50 0x57 keypad isOn
-    ∷ codeOf 0x54 0x44 phase (among (done ∷ []))
-    ∷ codeOf 0x54 0x50 phase (among (running ∷ stopped ∷ []))
-    ∷ codeOf 0x52 0x4c phase (among (running ∷ []))
+    codeOf "FL" flow isOn
+    ∷ codeOf "BD" reset isOn
+    ∷ codeOf "PC" changed isOn
+    ∷ codeOf "PF" powerfail isOn
+    ∷ codeOf "PW" keypad isOn
+    ∷ codeOf "TD" phase (among (done ∷ []))
+    ∷ codeOf "TP" phase (among (running ∷ stopped ∷ []))
+    ∷ codeOf "RL" phase (among (running ∷ []))
     ∷ []
 
 abbrev pub walk : ℕ → Knowledge → Walk
@@ -138,7 +140,7 @@ abbrev pub ended : List ℕ → Walk → Knowledge
 ended b s = unless (eqb (s .at) (length b)) (dead (s .known)) (s .known)
 
 unfoldable pub listShown : List ℕ → Knowledge → Knowledge
-listShown b k = unless (equal (take 3 b) (label 0x52 0x53)) (dead k) (ended b (codesShown b codes (walk 3 k)))
+listShown b k = unless (equal (take 3 b) (text "RS ")) (dead k) (ended b (codesShown b codes (walk 3 k)))
 
 -- ---- all requests
 abbrev pub okShown : List ℕ → Knowledge → Knowledge
@@ -150,9 +152,9 @@ shown Malformed b k = dead k
 shown NotServed b k = dead k
 shown Status b k = statusShown b k
 shown Codes b k = listShown b k
-shown Number b k = numberShown number (numberBehind (label 0x54 0x4e) 4 b) k
-shown Recipe b k = numberShown recipe (numberBehind (label 0x52 0x52) 2 b) k
-shown Composition b k = compositionShown (numberBehind (label 0x52 0x43) 2 (take 5 b)) (numberBehind (space ∷ []) 8 (drop 5 b)) k
+shown Number b k = numberShown number (numberBehind (text "TN ") 4 b) k
+shown Recipe b k = numberShown recipe (numberBehind (text "RR ") 2 b) k
+shown Composition b k = compositionShown (numberBehind (text "RC ") 2 (take 5 b)) (numberBehind (space ∷ []) 8 (drop 5 b)) k
 shown Raw b k = numberShown raw (numberBehind rawLabel 8 b) k
 shown (Value p) b k = numberShown (value (placeFor p)) (numberBehind (parameterLabel 0x50 0x56 p) 8 b) k
 shown (Level p) b k = numberShown (level (placeFor p)) (numberBehind (parameterLabel 0x58 0x56 p) 1 b) k
