@@ -14,11 +14,11 @@ use borrow.Author.Tests.{eqb-true, ltb-true, ltb-false}
 use Rattle.base.proofs.Tests.{holds-below, below-or-not}
 use Rattle.state.specs.declared.Record.{Record}
 use Rattle.state.specs.Parameter.{parameterCount, rangeAt}
-use Rattle.state.specs.Field.{Field, address, access, phase, keypad, flow, changed, reset, powerfail, recipe, preset, raw, number, value, level, get, position, fieldRange, fieldsFor, parameterFields}
+use Rattle.state.specs.Field.{Field, address, access, phase, keypad, flow, changed, reset, powerfail, recipe, preset, raw, number, value, level, get, position, fieldRange, fieldsFor, parameterFields, recordFrom}
 use Rattle.state.specs.Valid.{within, valid}
 use Rattle.state.proofs.Fields.{Held, same-field}
 use Rattle.state.proofs.Kept.{field-in}
-use Rattle.state.proofs.Whole.{recordFrom, get-from, from-valid}
+use Rattle.state.proofs.Whole.{get-from, from-valid}
 use Rattle.knowledge.specs.declared.Knowledge.{Knowledge}
 use Rattle.knowledge.specs.Sets.{single, kindOf, only, has, any}
 use Rattle.knowledge.specs.Knowledge.{codeAt, start, startCode}

@@ -12,7 +12,7 @@ use lib.Seq.{getD-append-add, ext-getD}
 use Rattle.base.proofs.Tests.{between-high}
 use Rattle.state.specs.declared.Record.{Record}
 use Rattle.state.specs.Parameter.{parameterCount}
-use Rattle.state.specs.Field.{Field, address, access, phase, keypad, flow, changed, reset, powerfail, recipe, preset, raw, number, value, level, get, fieldRange, phaseOf, flagOf, flagNumber}
+use Rattle.state.specs.Field.{Field, address, access, phase, keypad, flow, changed, reset, powerfail, recipe, preset, raw, number, value, level, get, fieldRange, phaseOf, flagOf, flagNumber, listed, recordFrom}
 use Rattle.state.specs.Valid.{within, valid}
 use Rattle.state.proofs.Fields.{Held, phase-back, phase-number, flag-back, flag-number}
 use Rattle.state.proofs.Validity.{valid-tell}
@@ -73,12 +73,6 @@ module _ (r s : Record) (v : valid r ≡ true) (w : valid s ≡ true) (same : (f
       }
 
 -- ---- a record of given numbers
-
--- w at each number below n
-unfoldable pub listed : (ℕ → ℕ) → ℕ → List ℕ
-listed w zero = []
-listed w (suc n) = listed w n ++ (w n ∷ [])
-
 listed-length : (w : ℕ → ℕ) (n : ℕ) → length (listed w n) ≡ n
 unfolding listed
 listed-length w zero = refl
@@ -93,25 +87,6 @@ listed-at w (suc n) i h =
     (λ (q : i ≡ n). ap (λ (j : ℕ). getD (listed w n ++ (w n ∷ [])) j 0) (omega arith) ∙ (getD-append-add (listed w n) (w n ∷ []) 0 0 ∙ ap w (sym q)))
     (λ (q : i < n). List·getD-append (listed w n) (w n ∷ []) 0 i (omega arith) ∙ listed-at w n i q)
     (eq-or-lt-of-le (omega arith))
-
-unfoldable pub recordFrom : (Field → ℕ) → Record
-recordFrom w =
-    record {
-      address = w address;
-      access = w access;
-      phase = phaseOf (w phase);
-      keypad = flagOf (w keypad);
-      flow = flagOf (w flow);
-      changed = flagOf (w changed);
-      reset = flagOf (w reset);
-      powerfail = flagOf (w powerfail);
-      recipe = w recipe;
-      preset = w preset;
-      raw = w raw;
-      number = w number;
-      values = listed (λ i. w (value i)) parameterCount;
-      levels = listed (λ i. w (level i)) parameterCount;
-    }
 
 module _ (w : Field → ℕ) (inside : (f : Field) → Held f → within (fieldRange f) (w f) ≡ true) where
   pub get-from : (f : Field) → Held f → get f (recordFrom w) ≡ w f

@@ -9,7 +9,7 @@ use Rattle.state.specs.declared.Phase.the-variants.{Idle, Set, Running, 
 use Rattle.state.specs.declared.Record.{Record}
 use Rattle.state.specs.declared.Range.{Range}
 use Rattle.base.specs.Test.{pick}
-use Rattle.state.specs.Parameter.{recipes, range, rangeAt}
+use Rattle.state.specs.Parameter.{recipes, range, parameterCount, rangeAt}
 
 -- the rows of 01's table; `value i` and `level i` are those of the parameter at place i
 pub data Field : Type 0 where
@@ -130,4 +130,30 @@ put f n r =
       number = pick (is f number) n (r .number);
       values = putAt 12 f n (r .values);
       levels = putAt 13 f n (r .levels);
+    }
+
+-- ---- the record of given numbers
+
+-- w at each number below n
+unfoldable pub listed : (ℕ → ℕ) → ℕ → List ℕ
+listed w zero = []
+listed w (suc n) = listed w n ++ (w n ∷ [])
+
+unfoldable pub recordFrom : (Field → ℕ) → Record
+recordFrom w =
+    record {
+      address = w address;
+      access = w access;
+      phase = phaseOf (w phase);
+      keypad = flagOf (w keypad);
+      flow = flagOf (w flow);
+      changed = flagOf (w changed);
+      reset = flagOf (w reset);
+      powerfail = flagOf (w powerfail);
+      recipe = w recipe;
+      preset = w preset;
+      raw = w raw;
+      number = w number;
+      values = listed (λ i. w (value i)) parameterCount;
+      levels = listed (λ i. w (level i)) parameterCount;
     }
