@@ -13,6 +13,11 @@ use lib.Seq.{drop-cons}
 use borrow.Author.Tests.{le-leb, lt-leb, leb-true, ltb-true, ltb-false, eq-eqb, ne-eqb}
 use Rattle.base.specs.Test.{between, allBetween, member}
 
+-- by a test that holds or not
+pub by-test : {A : Type 0} (b : Bool) → (b ≡ true → A) → (b ≡ false → A) → A
+by-test true f g = f refl
+by-test false f g = g refl
+
 pub and-yes : (a b : Bool) → a ≡ true → b ≡ true → (a && b) ≡ true
 and-yes true b p q = q
 and-yes false b p q = p

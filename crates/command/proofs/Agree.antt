@@ -16,14 +16,13 @@ use Rattle.state.specs.declared.Place.the-variants.{At, Nothing}
 use Rattle.base.specs.Test.{between}
 use Rattle.state.specs.Parameter.{recipes, parameterCount, placeOf, rangeAt}
 use Rattle.state.specs.Valid.{within}
-use Rattle.base.proofs.Tests.{below-or-not}
+use Rattle.base.proofs.Tests.{by-test, below-or-not}
 use Rattle.command.specs.Word.{space, valueOf, equal, oneOf}
 use Rattle.command.specs.Commands.{EQ, RS, TN, RR, RC, RT, PV, XV, PC, XC, NR, SB, SA, SP, ET, RE, codeIn, Form, nothing, parameter, parameterAnd, aNumber, formed, rowOf, commands, Change, applied, behindSpace, argument, placeIn, parameterIn, numberIn, secondIn}
 use Rattle.command.specs.Answer.{Verdict, NO, accepted, firstOf, verdict, replyFor, recordFor, recordAfter}
 use Rattle.command.specs.Request.{volumeOf, flagOf, requestFor, requestOf, guarded, verdictFor, shows, changes, replyTo, recordTo}
 use Rattle.command.proofs.Parsing.{equal-true, words-behind, differs, absent, codes, unknown}
 use Rattle.command.proofs.Deciding.{place-below}
-use Rattle.command.proofs.Tables.{by-test}
 
 -- a code has a place or not
 by-place : {P : Type 0} (q : Place) → ((i : ℕ) → q ≡ At i → P) → (q ≡ Nothing → P) → P

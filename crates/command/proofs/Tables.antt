@@ -9,6 +9,7 @@ use native.Mathlib.Omega.{arith}
 use lib.Dec.{eqb}
 use lib.ListN.{length, getD}
 use borrow.Author.Tests.{eqb-true, eqb-false}
+use Rattle.base.proofs.Tests.{by-test}
 use Rattle.state.specs.declared.Record.{Record}
 use Rattle.base.specs.Test.{pick}
 use Rattle.state.specs.Field.{Field, get, put, position, fieldRange}
@@ -31,11 +32,6 @@ pub record FirstAt (rows : List Row) (t : List ℕ) (r : Record) (i : ℕ) : Typ
   pub listed : i < length rows
   pub holds : applies (getD rows i noRow) t r ≡ true
   pub none-before : (j : ℕ) → j < i → applies (getD rows j noRow) t r ≡ false
-
--- a test holds or not
-pub by-test : {P : Type 0} (b : Bool) → (b ≡ true → P) → (b ≡ false → P) → P
-by-test true f g = f refl
-by-test false f g = g refl
 
 module _ (t : List ℕ) (r : Record) where
   -- the first row's number goes out

@@ -32,7 +32,8 @@ use Rattle.command.specs.Refusals.{refusals, rowNumber, applies, isNowhere}
 use Rattle.command.specs.Answer.{Verdict, NO, verdict, recordFor, replyText, recordAfter}
 use Rattle.command.specs.Answer as tables
 use Rattle.command.specs.Request.{requestOf, verdictFor}
-use Rattle.command.proofs.Tables.{by-test, FirstAt, noRow, first-goes-out, by-first, none-applies, accepted-if-none, numberAfter, Fitting, applied-valid, applied-reads}
+use Rattle.base.proofs.Tests.{by-test}
+use Rattle.command.proofs.Tables.{FirstAt, noRow, first-goes-out, by-first, none-applies, accepted-if-none, numberAfter, Fitting, applied-valid, applied-reads}
 use Rattle.command.proofs.Fits.{accepted-fits}
 use Rattle.command.proofs.Agree.{verdict-by-steps, effect-by-steps}
 use Rattle.reply.proofs.Laws.{Text, text-legal, verdict-answers}

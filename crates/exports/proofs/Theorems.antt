@@ -17,9 +17,9 @@ use Rattle.state.specs.Valid.{valid}
 use Rattle.state.specs.Event.{after}
 use Rattle.state.specs.Field.{address, get}
 use Rattle.state.proofs.Kept.{after-kept}
-use Rattle.stored.specs.Layout.{current, layout, recordOf}
+use Rattle.stored.specs.Layout.{current, items, headerWidth, slotsFrom, putAll}
 use Rattle.stored.specs.Form as stored
-use Rattle.stored.specs.Form.{K, done, numberOf, unpack, allIn, storedLength, storedForm, writeOf, headerOf, lowRecord, bodyOf, afterHeader}
+use Rattle.stored.specs.Form.{K, done, numberOf, numbersIn, allIn, storedLength, storedForm, writeOf, headerOf, lowRecord, takenFrom, bodyOf, afterHeader}
 use Rattle.stored.proofs.RoundTrip.{form-length, read-valid, read-written}
 use Rattle.frame.specs.declared.Kind.{Kind}
 use Rattle.frame.specs.Frame.{allText, namesUnit, addressIn, frameOf, textIn, withinLimits, marksRight, checkRight}
@@ -61,16 +61,16 @@ header-known s =
     go true true true = tt
 
 read-known : (s : List ℕ) → Reading (stored.readOf s)
-unfolding stored.readOf bodyOf
+unfolding stored.readOf bodyOf takenFrom
 read-known s = go (headerOf s) (header-known s)
   where
-    body : (b : Bool) → Reading (unless b (K 4, lowRecord) (done, recordOf (unpack (layout current) (drop 3 s))))
+    body : (b : Bool) → Reading (unless b (K 4, lowRecord) (done, putAll (items current) (numbersIn (slotsFrom headerWidth (items current)) s) lowRecord))
     body true = tt
     body false = (omega arith, refl)
 
     go : (h : stored.Outcome) → Header h → Reading (afterHeader h s)
     go (K n) k = (k, refl)
-    go done k = body (allIn (layout current) (unpack (layout current) (drop 3 s)))
+    go done k = body (allIn (slotsFrom headerWidth (items current)) (numbersIn (slotsFrom headerWidth (items current)) s))
 
 read-refusal : (s : List ℕ) (n : ℕ) (r : Record) → stored.readOf s ≡ (K n, r) → Within 1 4 n × (r ≡ lowRecord)
 read-refusal s n r e = subst Reading e (read-known s)

@@ -8,7 +8,7 @@ use native.Mathlib.Omega.{arith}
 use lib.Dec.{eqb, leb}
 use borrow.Author.Tests.{eq-eqb, ne-eqb, eqb-true, eqb-false, ltb-true}
 use Rattle.base.specs.Test.{pick}
-use Rattle.base.proofs.Tests.{and-left, and-right}
+use Rattle.base.proofs.Tests.{by-test, and-left, and-right}
 use Rattle.state.specs.declared.Record.{Record}
 use Rattle.state.specs.Parameter.{parameterCount, rangeAt}
 use Rattle.state.specs.Field.{phase, level, get}
@@ -19,7 +19,6 @@ use Rattle.command.specs.declared.Request.the-variants.{Unknown, Malformed, Not
 use Rattle.command.specs.Answer.{Verdict, NO, accepted}
 use Rattle.command.specs.Request.{refusedUnless, listed, andThen, placeFor, byItself, Guard, keypadGuard, guards, guarded}
 use Rattle.command.proofs.Applying.{first-passed, test-passed}
-use Rattle.command.proofs.Tables.{by-test}
 use Rattle.knowledge.specs.declared.Knowledge.{Knowledge}
 use Rattle.knowledge.specs.Sets.{several, kindOf}
 use Rattle.knowledge.specs.Knowledge.{passing}

@@ -73,7 +73,7 @@ module _ (r s : Record) (v : valid r ≡ true) (w : valid s ≡ true) (same : (f
       }
 
 -- ---- a record of given numbers
-listed-length : (w : ℕ → ℕ) (n : ℕ) → length (listed w n) ≡ n
+pub listed-length : (w : ℕ → ℕ) (n : ℕ) → length (listed w n) ≡ n
 unfolding listed
 listed-length w zero = refl
 listed-length w (suc n) = let h = listed-length w n in length-append (listed w n) (w n ∷ []) ∙ omega arith

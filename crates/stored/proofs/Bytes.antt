@@ -1,21 +1,15 @@
--- Numbers as bytes and back, and numbers one behind the other, over any list of slots. Assumes nothing.
-use Prim.Native.Nat.{ℕ, zero, suc, _+_, _*_, _/_, _%_, _^_, _≤_, _<_}
-use mathlib.Core.Bool.{Bool, true, _&&_}
+-- Numbers as bytes and back, and the loops that read and store them. Assumes nothing.
+use Prim.Native.Nat.{ℕ, zero, suc, _+_, _-_, _*_, _/_, _%_, _^_, _≤_, _<_}
 use mathlib.Core.Path.{_≡_, refl, sym, ap, _∙_}
 use mathlib.Core.List.{List, [], _∷_, _++_, append-assoc, append-nil}
-use mathlib.Core.Logic.{⊎-elim}
-use native.Mathlib.Nat.{pow-suc, not-suc-le-zero, le-of-suc-le-suc}
+use native.Mathlib.Nat.{pow-suc}
 use native.Mathlib.Numerals.{add-one}
 use native.Mathlib.Omega.{arith}
-use lib.Dec.{ltb}
-use lib.ListN.{List·getD-eq-default, length, getD, take, drop, set, length-append, length-take, length-drop, take-append-drop}
-use lib.Seq.{getD-take, take-suc, drop-cons, getD-drop, drop-drop, take-at, drop-at, length-take-le, sets, sets-eq}
-use borrow.Author.Tests.{ltb-true}
-use Rattle.base.proofs.Tests.{below-or-not, and-left, and-right, between-high}
-use Rattle.stored.specs.declared.Slot.{Slot}
-use Rattle.stored.specs.Layout.{noSlot}
-use Rattle.stored.specs.Form.{bigEndian, numberFrom, numberOf, pack, unpack, inSlot, allIn, totalWidth}
+use lib.ListN.{length, getD, take, drop, set, length-append, length-take, length-drop}
+use lib.Seq.{take-suc, take-all, drop-drop, drop-at, drop-length, length-take-le, set-split, sets, sets-eq}
+use borrow.Rule.Slice.PartMut.{putMid}
 use Rattle.base.specs.Lists.{over}
+use Rattle.stored.specs.Form.{bigEndian, numberFrom, numberOf}
 
 -- ---- one number
 pub big-length : (w n : ℕ) → length (bigEndian w n) ≡ w
@@ -63,53 +57,65 @@ unfolding bigEndian
 big-number w bs e h =
     let q : w ≡ 0 + length bs = omega arith in ap (λ (v : ℕ). bigEndian v (numberOf bs)) q ∙ big-from 0 0 bs h
 
--- ---- reading two and four bytes
+-- ---- reading: the loop of `number_in`
+power-high : (i : ℕ) → i ≤ 3 → 256 ^ i ≤ 16777216
+power-high zero h = omega arith
+power-high (suc zero) h = omega arith
+power-high (suc (suc zero)) h = omega arith
+power-high (suc (suc (suc zero))) h = omega arith
+power-high (suc (suc (suc (suc i)))) h = absurd (omega arith)
 
--- the bytes from a place on, one by one
-from-place : (bs : List ℕ) (at : ℕ) → at < length bs → drop at bs ≡ getD bs at 0 ∷ drop (at + 1) bs
-from-place bs at h = drop-cons bs at 0 h ∙ ap (λ (j : ℕ). getD bs at 0 ∷ drop j bs) (sym (add-one at))
+-- the number of the first i bytes
+pub record Begun (s : List ℕ) (n i : ℕ) : Type 0 where
+  pub place : i ≤ length s
+  pub is : n ≡ numberOf (take i s)
+  pub below : n < 256 ^ i
 
-pub number-one : (bs : List ℕ) (at : ℕ) → at < length bs → numberOf (take 1 (drop at bs)) ≡ getD bs at 0
+pub begun-none : (s : List ℕ) → Begun s 0 0
 unfolding numberFrom
-number-one bs at h = ap (λ (l : List ℕ). numberOf (take 1 l)) (from-place bs at h) ∙ omega arith
+begun-none s = record { place = omega arith; is = refl; below = omega arith }
 
-two-bytes : (bs : List ℕ) (at : ℕ) → at + 2 ≤ length bs → take 2 (drop at bs) ≡ getD bs at 0 ∷ getD bs (at + 1) 0 ∷ []
-two-bytes bs at h =
-    ap (take 2) (from-place bs at (omega arith)) ∙ ap (λ (l : List ℕ). getD bs at 0 ∷ take 1 l) (from-place bs (at + 1) (omega arith))
+module _ {s : List ℕ} {n i : ℕ} (b : Begun s n i) where
+  pub begun-high : i < length s → length s ≤ 4 → n < 16777216
+  begun-high h l = let p = power-high i (omega arith) in let q = b .below in omega arith
 
-number-two : (bs : List ℕ) (at : ℕ) → at + 2 ≤ length bs → numberOf (take 2 (drop at bs)) ≡ getD bs at 0 * 256 + getD bs (at + 1) 0
-unfolding numberFrom
-number-two bs at h = ap numberOf (two-bytes bs at h) ∙ omega arith
+  pub begun-more : {x : ℕ} → i < length s → (x ≡ getD s i 0) × (x < 256) → Begun s (n * 256 + x) (i + 1)
+  begun-more {x} h e =
+      let q = b .below in
+      let w : 256 ^ (i + 1) ≡ 256 ^ i * 256 = ap (λ (k : ℕ). 256 ^ k) (add-one i) ∙ pow-suc 256 i in
+      record {
+        place = omega arith;
+        is =
+            ap (λ (m : ℕ). m * 256 + x) (b .is) ∙ ap (λ (m : ℕ). numberOf (take i s) * 256 + m) (e .0) ∙
+            sym (ap (λ (k : ℕ). numberOf (take k s)) (add-one i) ∙ (ap numberOf (take-suc s i 0 h) ∙ number-append 0 (getD s i 0) (take i s)));
+        below = omega arith;
+      }
 
--- a number of so many bytes and two more
-number-split : (bs : List ℕ) (at w : ℕ) → at + w + 2 ≤ length bs → numberOf (take (w + 2) (drop at bs)) ≡ numberOf (take w (drop at bs)) * 65536 + numberOf (take 2 (drop (at + w) bs))
-number-split bs at w h =
-    let d = length-drop at bs in
-    let e : w + 2 ≡ suc (suc w) = omega arith in
-    let a : getD (drop at bs) w 0 ≡ getD bs (at + w) 0 = getD-drop at bs w 0 in
-    let i : at + suc w ≡ at + w + 1 = omega arith in
-    let b : getD (drop at bs) (suc w) 0 ≡ getD bs (at + w + 1) 0 = getD-drop at bs (suc w) 0 ∙ ap (λ (j : ℕ). getD bs j 0) i in
-    let t : take (suc (suc w)) (drop at bs) ≡ (take w (drop at bs) ++ (getD (drop at bs) w 0 ∷ [])) ++ (getD (drop at bs) (suc w) 0 ∷ []) =
-    take-suc (drop at bs) (suc w) 0 (omega arith) ∙ ap (λ (l : List ℕ). l ++ (getD (drop at bs) (suc w) 0 ∷ [])) (take-suc (drop at bs) w 0 (omega arith)) in
-    let n : numberOf (take (suc (suc w)) (drop at bs)) ≡ (numberOf (take w (drop at bs)) * 256 + getD (drop at bs) w 0) * 256 + getD (drop at bs) (suc w) 0 =
-    ap numberOf t ∙ (number-append 0 (getD (drop at bs) (suc w) 0) (take w (drop at bs) ++ (getD (drop at bs) w 0 ∷ [])) ∙
-    ap (λ (m : ℕ). m * 256 + getD (drop at bs) (suc w) 0) (number-append 0 (getD (drop at bs) w 0) (take w (drop at bs)))) in
-    let l : numberOf (take 2 (drop (at + w) bs)) ≡ getD bs (at + w) 0 * 256 + getD bs (at + w + 1) 0 = number-two bs (at + w) h in
-    ap (λ (k : ℕ). numberOf (take k (drop at bs))) e ∙ (n ∙ omega arith)
+  pub begun-all : length s ≤ i → n ≡ numberOf s
+  begun-all h = b .is ∙ ap numberOf (take-all i s h)
 
-pub two-read : (bs : List ℕ) (at a b : ℕ) → at + 2 ≤ length bs → a ≡ getD bs at 0 → b ≡ getD bs (at + 1) 0 → a * 256 + b ≡ numberOf (take 2 (drop at bs))
-two-read bs at a b h p q = let n = number-two bs at h in omega arith
+-- ---- storing: the loop of `fill`, the bytes that are left to write and those that are written
+pub fill-begun : (o : List ℕ) (n : ℕ) → bigEndian (length o) n ++ drop (length o) o ≡ bigEndian (length o) n
+fill-begun o n = ap (λ (y : List ℕ). bigEndian (length o) n ++ y) (drop-length o) ∙ append-nil (bigEndian (length o) n)
 
-pub three-read : (bs : List ℕ) (at a n : ℕ) → at + 3 ≤ length bs → a ≡ getD bs at 0 → n ≡ numberOf (take 2 (drop (at + 1) bs)) → a * 65536 + n ≡ numberOf (take 3 (drop at bs))
-three-read bs at a n h p q =
-    let s = number-split bs at 1 (omega arith) in
-    let o = number-one bs at (omega arith) in
-    omega arith
+pub fill-again : (left rest : ℕ) (o whole : List ℕ) → 0 < left → left ≤ length o → bigEndian left rest ++ drop left o ≡ whole
+    → bigEndian (left - 1) (rest / 256) ++ drop (left - 1) (set o (left - 1) (rest % 256)) ≡ whole
+unfolding bigEndian
+fill-again zero rest o whole p h e = absurd (omega arith)
+fill-again (suc l) rest o whole p h e =
+    let i : suc l - 1 ≡ l = omega arith in
+    let d : ℕ = rest % 256 in
+    let f : drop l (set o l d) ≡ d ∷ drop (suc l) o =
+    ap (drop l) (set-split o l d h) ∙ drop-at (take l o) (d ∷ drop (suc l) o) l (length-take-le l o (omega arith)) in
+    ap (λ (k : ℕ). bigEndian k (rest / 256) ++ drop k (set o k d)) i ∙ ap (λ (y : List ℕ). bigEndian l (rest / 256) ++ y) f
+    ∙ sym (append-assoc (bigEndian l (rest / 256)) (d ∷ []) (drop (suc l) o)) ∙ e
 
-pub four-read : (bs : List ℕ) (at a b : ℕ) → at + 4 ≤ length bs → a ≡ numberOf (take 2 (drop at bs)) → b ≡ numberOf (take 2 (drop (at + 2) bs)) → a * 65536 + b ≡ numberOf (take 4 (drop at bs))
-four-read bs at a b h p q = let s = number-split bs at 2 (omega arith) in omega arith
+pub fill-done : (left rest : ℕ) (o whole : List ℕ) → left ≤ 0 → bigEndian left rest ++ drop left o ≡ whole → o ≡ whole
+unfolding bigEndian
+fill-done zero rest o whole h e = e
+fill-done (suc l) rest o whole h e = absurd (omega arith)
 
--- ---- storing two and four bytes
+-- ---- storing in a part of a buffer
 
 -- a list stored behind another that was stored
 pub sets-append : (o : List ℕ) (at : ℕ) (f g : List ℕ) → sets (sets o at f) (at + length f) g ≡ sets o at (f ++ g)
@@ -128,89 +134,16 @@ pub sets-over : (f o : List ℕ) → length f ≤ length o → sets o 0 f ≡ ov
 unfolding over
 sets-over f o h = let e : 0 + length f ≡ length f = omega arith in sets-eq f o 0 (omega arith) ∙ ap (λ (n : ℕ). f ++ drop n o) e
 
-pub two-put : (o : List ℕ) (n at : ℕ) → set (set o at (n / 256 % 256)) (at + 1) (n % 256) ≡ sets o at (bigEndian 2 n)
-unfolding bigEndian
-two-put o n at = ap (λ (j : ℕ). set (set o at (n / 256 % 256)) j (n % 256)) (add-one at)
-
-pub four-put : (o y z : List ℕ) (n at : ℕ) → y ≡ sets o at (bigEndian 2 (n / 65536)) → z ≡ sets y (at + 2) (bigEndian 2 n) → z ≡ sets o at (bigEndian 4 n)
-unfolding bigEndian
-four-put o y z n at e q =
-    let a : n / 65536 / 256 % 256 ≡ n / 256 / 256 / 256 % 256 = omega arith in
-    let b : n / 65536 % 256 ≡ n / 256 / 256 % 256 = omega arith in
-    q ∙ (sets-next o y at (at + 2) (bigEndian 2 (n / 65536)) (bigEndian 2 n) e refl ∙
-    (ap (λ (x : ℕ). sets o at (x ∷ n / 65536 % 256 ∷ n / 256 % 256 ∷ n % 256 ∷ [])) a ∙ ap (λ (x : ℕ). sets o at (n / 256 / 256 / 256 % 256 ∷ x ∷ n / 256 % 256 ∷ n % 256 ∷ [])) b))
-
--- ---- numbers one behind the other
-
--- the number at a place is read behind the widths of those before it
-pub unpack-at : (ss : List Slot) (bs : List ℕ) (k : ℕ) → k < length ss → getD (unpack ss bs) k 0 ≡ numberOf (take (getD ss k noSlot .width) (drop (totalWidth (take k ss)) bs))
-unfolding unpack totalWidth
-unpack-at [] bs k h = absurd (not-suc-le-zero h)
-unpack-at (s ∷ ss) bs zero h = refl
-unpack-at (s ∷ ss) bs (suc k) h =
-    unpack-at ss (drop (s .width) bs) k (le-of-suc-le-suc h) ∙
-    ap (λ (l : List ℕ). numberOf (take (getD ss k noSlot .width) l)) (drop-drop (totalWidth (take k ss)) (s .width) bs)
-
-pub unpack-length : (ss : List Slot) (bs : List ℕ) → length (unpack ss bs) ≡ length ss
-unfolding unpack
-unpack-length [] bs = refl
-unpack-length (s ∷ ss) bs = ap suc (unpack-length ss (drop (s .width) bs))
-
-pub pack-append : (ss ts : List Slot) (ns ms : List ℕ) → length ns ≡ length ss → pack (ss ++ ts) (ns ++ ms) ≡ pack ss ns ++ pack ts ms
-unfolding pack
-pack-append [] ts [] ms e = refl
-pack-append [] ts (n ∷ ns) ms e = absurd (omega arith)
-pack-append (s ∷ ss) ts [] ms e = absurd (omega arith)
-pack-append (s ∷ ss) ts (n ∷ ns) ms e =
-    ap (λ (l : List ℕ). bigEndian (s .width) n ++ l) (pack-append ss ts ns ms (omega arith)) ∙ sym (append-assoc (bigEndian (s .width) n) (pack ss ns) (pack ts ms))
-
--- ---- packing and unpacking are inverse
-pub pack-length : (ss : List Slot) (ns : List ℕ) → length ns ≡ length ss → length (pack ss ns) ≡ totalWidth ss
-unfolding pack totalWidth
-pack-length [] ns e = refl
-pack-length (s ∷ ss) [] e = absurd (omega arith)
-pack-length (s ∷ ss) (n ∷ ns) e =
-    let h = pack-length ss ns (omega arith) in
-    let b = big-length (s .width) n in
-    length-append (bigEndian (s .width) n) (pack ss ns) ∙ omega arith
-
--- every number of the slot fits its bytes
-abbrev pub allFit : List Slot → Bool
-allFit [] = true
-allFit (s ∷ ss) = ltb (s .high) (256 ^ s .width) && allFit ss
-
-pub unpack-pack : (ss : List Slot) (ns : List ℕ) → allFit ss ≡ true → length ns ≡ length ss → allIn ss ns ≡ true → unpack ss (pack ss ns) ≡ ns
-unfolding pack unpack allIn
-unpack-pack [] [] f e h = refl
-unpack-pack [] (n ∷ ns) f e h = absurd (omega arith)
-unpack-pack (s ∷ ss) [] f e h = absurd (omega arith)
-unpack-pack (s ∷ ss) (n ∷ ns) f e h =
-    let w : ℕ = s .width in
-    let high : n ≤ s .high = between-high (s .low) (s .high) n (and-left (inSlot s n) (allIn ss ns) h) in
-    let fits : s .high < 256 ^ w = ltb-true _ _ (and-left (ltb (s .high) (256 ^ w)) (allFit ss) f) in
-    let l : length (bigEndian w n) ≡ w = big-length w n in
-    ap (λ (t : List ℕ). numberOf t ∷ unpack ss (drop w (bigEndian w n ++ pack ss ns))) (take-at (bigEndian w n) (pack ss ns) w l) ∙
-    (ap (λ (t : List ℕ). numberOf (bigEndian w n) ∷ unpack ss t) (drop-at (bigEndian w n) (pack ss ns) w l) ∙
-    (ap (λ (m : ℕ). m ∷ unpack ss (pack ss ns)) (number-big w n (omega arith)) ∙
-    ap (λ (t : List ℕ). n ∷ t) (unpack-pack ss ns (and-right (ltb (s .high) (256 ^ w)) (allFit ss) f) (omega arith) (and-right (inSlot s n) (allIn ss ns) h))))
-
-pub bytes-drop : (n : ℕ) (bs : List ℕ) → Bytes bs → Bytes (drop n bs)
-bytes-drop n bs h i = let e = getD-drop n bs i 0 in omega (arith, h (n + i))
-
-pub bytes-take : (n : ℕ) (bs : List ℕ) → Bytes bs → Bytes (take n bs)
-bytes-take n bs h i =
-    ⊎-elim (λ (q : i < n). omega (arith, getD-take n bs i 0 q, h i))
-    (λ (q : n ≤ i).
-    let l : length (take n bs) ≤ i = simp length-take (omega arith) in
-    omega (arith, List·getD-eq-default (take n bs) 0 l))
-    (below-or-not i n)
-
-pub pack-unpack : (ss : List Slot) (bs : List ℕ) → length bs ≡ totalWidth ss → Bytes bs → pack ss (unpack ss bs) ≡ bs
-unfolding pack unpack totalWidth
-pack-unpack [] [] e h = refl
-pack-unpack [] (b ∷ bs) e h = absurd (omega arith)
-pack-unpack (s ∷ ss) bs e h =
-    let w : ℕ = s .width in
-    let d = length-drop w bs in
-    ap (λ (t : List ℕ). t ++ pack ss (unpack ss (drop w bs))) (big-number w (take w bs) (length-take-le w bs (omega arith)) (bytes-take w bs h)) ∙
-    (ap (λ (t : List ℕ). take w bs ++ t) (pack-unpack ss (drop w bs) (omega arith) (bytes-drop w bs h)) ∙ take-append-drop w bs)
+-- the part from a place on comes back filled
+pub part-filled : (at w n : ℕ) (o ys : List ℕ) → at + w ≤ length o → ys ≡ bigEndian (length (take (at + w - at) (drop at o))) n
+    → putMid at (at + w - at) o ys ≡ sets o at (bigEndian w n)
+part-filled at w n o ys h e =
+    let i : at + w - at ≡ w = omega arith in
+    let l : length (take (at + w - at) (drop at o)) ≡ w = simp (length-take, length-drop) (omega arith) in
+    let y : ys ≡ bigEndian w n = e ∙ ap (λ (k : ℕ). bigEndian k n) l in
+    let b = big-length w n in
+    let d : drop (at + w - at) (drop at o) ≡ drop (at + length (bigEndian w n)) o =
+    ap (λ (k : ℕ). drop k (drop at o)) i ∙ (drop-drop w at o ∙ ap (λ (k : ℕ). drop (at + k) o) (sym b)) in
+    ap (λ (z : List ℕ). take at o ++ (z ++ drop (at + w - at) (drop at o))) y ∙
+    (ap (λ (z : List ℕ). take at o ++ (bigEndian w n ++ z)) d ∙
+    (sym (append-assoc (take at o) (bigEndian w n) (drop (at + length (bigEndian w n)) o)) ∙ sym (sets-eq (bigEndian w n) o at (omega arith))))

@@ -1,7 +1,8 @@
 pub mod ListLaws
 pub mod Bytes
 pub mod Slots
-pub mod Numbers
-pub mod Answers
-pub mod RoundTrip
+pub mod LowRecord
+pub mod Taking
+pub mod Writing
 pub mod Records
+pub mod RoundTrip

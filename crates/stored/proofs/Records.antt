@@ -1,190 +1,341 @@
--- A record is written as its header, its scalars and its parameters one behind the other; and the bytes of a record are whole if it is valid.
--- Assumes nothing.
-use Prim.Native.Nat.{ℕ, _+_, _*_, _/_, _%_, _≤_, _<_}
-use mathlib.Core.Bool.{Bool, true, false, not, false≢true}
-use mathlib.Core.Path.{_≡_, refl, sym, ap, _∙_}
-use mathlib.Core.List.{List, [], _∷_, _++_, append-assoc}
+-- A record and its stored numbers are inverse to each other, and the record is valid exactly if the numbers lie in their slots: over any
+-- list of items that names each field once, and then for the list that is stored. Assumes nothing.
+use Prim.Native.Nat.{ℕ, zero, suc, _+_, _-_, _*_, _/_, _%_, _^_, _≤_, _<_}
+use mathlib.Core.Bool.{Bool, true, false, not, _&&_, _||_, false≢true}
+use mathlib.Core.Path.{_≡_, refl, sym, ap, subst, _∙_}
+use mathlib.Core.List.{List, [], _∷_, _++_, map}
+use mathlib.Core.Logic.{⊎-elim}
+use native.Mathlib.Nat.{pow-suc}
 use native.Mathlib.Omega.{arith}
-use lib.ListN.{length, getD, take, drop, set, length-append, length-set, take-append-drop}
-use lib.Seq.{sets, length-sets}
-use borrow.Author.Tests.{le-leb, not-true, not-false}
+use lib.Dec.{eqb, ltb}
+use lib.ListN.{length, getD}
+use borrow.Author.Tests.{eq-eqb, ne-eqb, eqb-true, eqb-false, ltb-true}
+use Rattle.base.specs.Test.{member}
+use Rattle.base.proofs.Tests.{and-yes, and-left, and-right, between-yes, between-high, holds-below, by-test}
 use Rattle.state.specs.declared.Record.{Record}
-use Rattle.state.specs.Parameter.{parameterCount}
-use Rattle.state.specs.Field.{phaseNumber}
-use Rattle.state.specs.Valid.{valid}
-use Rattle.base.proofs.Tests.{between-yes, between-high}
-use Rattle.state.proofs.Validity.{phase-in, valid-tell}
-use Rattle.base.specs.Test.{between}
-use Rattle.base.specs.Lists.{over}
+use Rattle.state.specs.Parameter.{parameterCount, rangeAt}
+use Rattle.state.specs.Field.{Field, address, access, phase, keypad, flow, changed, reset, powerfail, recipe, preset, raw, number, value, level, position, get, put, fieldRange, off, on}
+use Rattle.state.specs.Valid.{within, valid}
+use Rattle.state.proofs.Fields.{Held, same-field, get-put-same, get-put-other}
+use Rattle.state.proofs.Kept.{field-in, put-kept}
+use Rattle.state.proofs.Validity.{valid-tell}
+use Rattle.state.proofs.Whole.{same-fields, from-valid}
 use Rattle.stored.specs.declared.Slot.{Slot}
-use Rattle.stored.specs.declared.Number.{Number}
-use Rattle.stored.specs.declared.Number.the-variants as number
-use Rattle.stored.specs.Layout.{current, layout, noSlot, numbersOf, recordOf, bits, flagFields}
-use Rattle.stored.specs.Form.{Outcome, K, done, bigEndian, pack, unpack, allIn, totalWidth, storedLength, storedForm, writeOf, lowRecord, bodyOf, inSlot, numberRead}
-use Rattle.stored.proofs.Bytes.{big-length, sets-next, sets-over, pack-append, unpack-length}
-use Rattle.stored.proofs.Slots.{number-high}
-use Rattle.stored.proofs.Numbers.{phase-byte, flags-byte}
-use Rattle.stored.proofs.Answers.{stored-177, width-174, body-field, body-done}
-use Rattle.stored.proofs.RoundTrip.{form-length, flags-in, numbers-valid, record-slots}
+use Rattle.stored.specs.Layout.{Item, alone, together, scalarItems, parameterItems, current, items, itemWidth, itemSlot, slotsFrom, bits, itemNumber, numbersOf, putBits, putItem, putAll}
+use Rattle.stored.specs.Form.{inSlot, allIn, lowRecord}
 
--- ---- writing
-pub valid-then : (r : Record) (b : Bool) → b ≡ valid r → not b ≡ false → valid r ≡ true
-valid-then r b e n = sym e ∙ not-false b n
+-- ---- which fields items name
 
--- the buffer after six bytes are stored
-abbrev pub six : List ℕ → ℕ → ℕ → ℕ → ℕ → ℕ → ℕ → List ℕ
-six o a b c d e f = set (set (set (set (set (set o 3 a) 4 b) 5 c) 6 d) 7 e) 8 f
+-- a field by its position
+abbrev among : List Field → ℕ → Bool
+among [] p = false
+among (f ∷ fs) p = eqb (position f) p || among fs p
 
-six-length : (o : List ℕ) (a b c d e f : ℕ) → length (six o a b c d e f) ≡ length o
-six-length o a b c d e f = simp length-set
+abbrev names : Item → ℕ → Bool
+names (alone w f) p = eqb (position f) p
+names (together fs) p = among fs p
 
--- it is as long as it was, and so it stays
-module _ (o x : List ℕ) (a b c d e f : ℕ) (p : length x ≡ length (six o a b c d e f)) where
-  pub raw-room : 17 ≤ length o → 15 ≤ length x
-  raw-room h = omega (arith, six-length o a b c d e f)
+abbrev namesIn : List Item → ℕ → Bool
+namesIn [] p = false
+namesIn (x ∷ xs) p = names x p || namesIn xs p
 
-  pub number-room : (y : List ℕ) → length y ≡ length x → 17 ≤ length o → 17 ≤ length y
-  number-room y q h = omega (arith, six-length o a b c d e f)
+abbrev held : Field → Bool
+held f = ltb (position f) (position (value parameterCount))
 
-cong-six : {a b c d e f a₁ b₁ c₁ d₁ e₁ f₁ : ℕ} (l : List ℕ) → a ≡ a₁ → b ≡ b₁ → c ≡ c₁ → d ≡ d₁ → e ≡ e₁ → f ≡ f₁
-    → a ∷ b ∷ c ∷ d ∷ e ∷ f ∷ l ≡ a₁ ∷ b₁ ∷ c₁ ∷ d₁ ∷ e₁ ∷ f₁ ∷ l
-cong-six l p q r s t u = cc
+abbrev flag : Field → Bool
+flag f = eqb (fieldRange f .low) off && eqb (fieldRange f .high) on
 
-module _ (r : Record) (o x y z : List ℕ) (p f : ℕ) (e₃ : x ≡ sets (six o (r .address) (r .access) p f (r .recipe) (r .preset / 65536 % 256)) 9 (bigEndian 2 (r .preset)))
-    (e₄ : y ≡ sets x 11 (bigEndian 4 (r .raw))) (e₅ : z ≡ sets y 15 (bigEndian 2 (r .number))) where
-  pub scalars-same : length z ≡ length o
-  scalars-same =
-      ap length e₅ ∙ (length-sets y 15 (bigEndian 2 (r .number)) ∙ (ap length e₄ ∙ (length-sets x 11 (bigEndian 4 (r .raw)) ∙
-      (ap length e₃ ∙ (length-sets (six o (r .address) (r .access) p f (r .recipe) (r .preset / 65536 % 256)) 9 (bigEndian 2 (r .preset)) ∙
-      six-length o (r .address) (r .access) p f (r .recipe) (r .preset / 65536 % 256))))))
+-- the fields are the record's, several in one byte are flags, and each is named once
+abbrev flags : List Field → Bool
+flags [] = true
+flags (f ∷ fs) = (held f && flag f) && (not (among fs (position f)) && flags fs)
 
-  pub scalars-put : valid r ≡ true → p ≡ phaseNumber (r .phase) → f ≡ bits r flagFields → z ≡ sets o 3 (pack (take 8 (layout current)) (take 8 (numbersOf current r)))
-  unfolding pack bigEndian layout numbersOf
-  scalars-put v e₁ e₂ =
-      let s = valid-tell r v .scalars in
-      let a : r .address ≡ r .address % 256 = omega (arith, s .address-high) in
-      let b : r .access ≡ r .access % 256 = omega (arith, s .access-high) in
-      let c : p ≡ phaseNumber (r .phase) % 256 = omega (arith, between-high 0 4 (phaseNumber (r .phase)) (phase-in (r .phase))) in
-      let d : f ≡ bits r flagFields % 256 = omega (arith, between-high 0 31 (bits r flagFields) (flags-in r)) in
-      let g : r .recipe ≡ r .recipe % 256 = omega (arith, s .recipe-high) in
-      let h : r .preset / 65536 % 256 ≡ r .preset / 256 / 256 % 256 = omega arith in
-      let six : List ℕ = r .address ∷ r .access ∷ p ∷ f ∷ r .recipe ∷ r .preset / 65536 % 256 ∷ [] in
-      let x₁ : x ≡ sets o 3 (six ++ bigEndian 2 (r .preset)) = e₃ ∙ sets-next o _ 3 9 six (bigEndian 2 (r .preset)) refl refl in
-      let y₁ : y ≡ sets o 3 ((six ++ bigEndian 2 (r .preset)) ++ bigEndian 4 (r .raw)) = e₄ ∙ sets-next o x 3 11 (six ++ bigEndian 2 (r .preset)) (bigEndian 4 (r .raw)) x₁ refl in
-      e₅ ∙ (sets-next o y 3 15 ((six ++ bigEndian 2 (r .preset)) ++ bigEndian 4 (r .raw)) (bigEndian 2 (r .number)) y₁ refl ∙ ap (sets o 3) (cong-six ((bigEndian 2 (r .preset) ++ bigEndian 4 (r .raw)) ++ bigEndian 2 (r .number)) a b c d g h))
+abbrev apart : List Field → List Item → Bool
+apart [] xs = true
+apart (f ∷ fs) xs = not (namesIn xs (position f)) && apart fs xs
 
-scalars-count : (r : Record) → length (take 8 (numbersOf current r)) ≡ length (take 8 (layout current))
-unfolding layout numbersOf
-scalars-count r = refl
+abbrev soundItem : Item → List Item → Bool
+soundItem (alone w f) xs = held f && not (namesIn xs (position f))
+soundItem (together fs) xs = flags fs && apart fs xs
 
--- the parts of the form, one behind the other
-form-parts : (r : Record)
-    → ((current ∷ bigEndian 2 (storedLength current)) ++ pack (take 8 (layout current)) (take 8 (numbersOf current r))) ++ pack (drop 8 (layout current)) (drop 8 (numbersOf current r)) ≡ storedForm r
-unfolding storedForm
-form-parts r =
-    append-assoc (current ∷ bigEndian 2 (storedLength current)) _ _ ∙
-    ap (λ (l : List ℕ). current ∷ (bigEndian 2 (storedLength current) ++ l))
-    (sym (pack-append (take 8 (layout current)) (drop 8 (layout current)) (take 8 (numbersOf current r)) (drop 8 (numbersOf current r)) (scalars-count r)) ∙
-    (ap (λ (l : List Slot). pack l (take 8 (numbersOf current r) ++ drop 8 (numbersOf current r))) (take-append-drop 8 (layout current)) ∙
-    ap (pack (layout current)) (take-append-drop 8 (numbersOf current r))))
+abbrev sound : List Item → Bool
+sound [] = true
+sound (x ∷ xs) = soundItem x xs && sound xs
 
-scalars-length : (r : Record) → length (pack (take 8 (layout current)) (take 8 (numbersOf current r))) ≡ 14
-unfolding pack bigEndian layout numbersOf
-scalars-length r = refl
+-- ---- tests
+either : {P : Type 0} (a b : Bool) → (a || b) ≡ true → (a ≡ true → P) → (b ≡ true → P) → P
+either true b h f g = f refl
+either false b h f g = g h
 
-pub write-whole : (r : Record) (o x y z : List ℕ) (b : Bool) → b ≡ valid r → not b ≡ false → 177 ≤ length o
-    → x ≡ sets o 0 (current ∷ bigEndian 2 (storedLength current))
-    → y ≡ sets x 3 (pack (take 8 (layout current)) (take 8 (numbersOf current r)))
-    → z ≡ sets y 17 (pack (drop 8 (layout current)) (drop 8 (numbersOf current r))) → (done, z) ≡ writeOf r o
-unfolding writeOf
-write-whole r o x y z b v n h e₁ e₂ e₃ =
-    let head : List ℕ = current ∷ bigEndian 2 (storedLength current) in
-    let first : List ℕ = pack (take 8 (layout current)) (take 8 (numbersOf current r)) in
-    let rest : List ℕ = pack (drop 8 (layout current)) (drop 8 (numbersOf current r)) in
-    let l : length (bigEndian 2 (storedLength current)) ≡ 2 = big-length 2 (storedLength current) in
-    let m = scalars-length r in
-    let k : length (head ++ first) ≡ 17 = length-append head first ∙ omega arith in
-    let y₁ : y ≡ sets o 0 (head ++ first) = e₂ ∙ sets-next o x 0 3 head first e₁ (omega arith) in
-    let z₁ : z ≡ sets o 0 ((head ++ first) ++ rest) = e₃ ∙ sets-next o y 0 17 (head ++ first) rest y₁ (omega arith) in
-    let whole : z ≡ over (storedForm r) o = z₁ ∙ (ap (sets o 0) (form-parts r) ∙ sets-over (storedForm r) o (omega (arith, form-length r, stored-177))) in
-    ap (λ (t : List ℕ). (done, t)) whole ∙ simp (valid-then r b v n, stored-177, le-leb 177 (length o) h)
+neither : (a b : Bool) → (a || b) ≡ false → (a ≡ false) × (b ≡ false)
+neither true b h = absurd (false≢true (sym h))
+neither false b h = (refl, h)
 
--- ---- reading
+or-right : (a b : Bool) → b ≡ true → (a || b) ≡ true
+or-right true b h = refl
+or-right false b h = h
 
--- by the slot that stands in the layout
-module _ (z s : Slot) (m n : ℕ) (b : Bool) (i : s ≡ z) (j : n ≡ m) (e : b ≡ between (s .low) (s .high) n) where
-  pub read-outside : not b ≡ true → number.Outside ≡ numberRead z m
-  unfolding numberRead
-  read-outside h =
-      let y : inSlot z m ≡ false = ap (λ (x : ℕ). inSlot z x) (sym j) ∙ (ap (λ (x : Slot). inSlot x n) (sym i) ∙ (sym e ∙ not-true b h)) in simp y
+not-so : (a : Bool) → not a ≡ true → a ≡ false
+not-so true h = absurd (false≢true h)
+not-so false h = refl
 
-  pub read-inside : not b ≡ false → number.Inside n ≡ numberRead z m
-  unfolding numberRead
-  read-inside h =
-      let y : inSlot z m ≡ true = ap (λ (x : ℕ). inSlot z x) (sym j) ∙ (ap (λ (x : Slot). inSlot x n) (sym i) ∙ (sym e ∙ not-false b h)) in
-      ap number.Inside j ∙ simp y
+held-is : (f : Field) → held f ≡ true → Held f
+held-is f h = ltb-true _ _ h
 
--- what a number's reader answers tells whether the number lies in its slot
-module _ (s : Slot) (n : ℕ) (x : Number) (e : x ≡ numberRead s n) where
-  outside-slot : x ≡ number.Outside → inSlot s n ≡ true → ⊥
-  unfolding numberRead
-  outside-slot o h = let z : number.Outside ≡ number.Inside n = sym o ∙ (e ∙ simp h) in let y : _≡_ {A = ℕ} 0 1 = cc in absurd (omega arith)
+flag-within : (f : Field) (n : ℕ) → flag f ≡ true → n ≤ 1 → within (fieldRange f) n ≡ true
+flag-within f n h l =
+    let a = eqb-true (fieldRange f .low) off (and-left (eqb (fieldRange f .low) off) (eqb (fieldRange f .high) on) h) in
+    let b = eqb-true (fieldRange f .high) on (and-right (eqb (fieldRange f .low) off) (eqb (fieldRange f .high) on) h) in
+    between-yes (fieldRange f .low) (fieldRange f .high) n (omega arith) (omega arith)
 
-  inside-slot : (m : ℕ) → x ≡ number.Inside m → inSlot s n ≡ true
-  unfolding numberRead
-  inside-slot m i = go (inSlot s n) refl
-    where
-      go : (b : Bool) → inSlot s n ≡ b → inSlot s n ≡ true
-      go true h = h
-      go false h = let z : number.Inside m ≡ number.Outside = sym i ∙ (e ∙ simp h) in let y : _≡_ {A = ℕ} 0 1 = cc in absurd (omega arith)
+flag-high : (f : Field) (n : ℕ) → flag f ≡ true → within (fieldRange f) n ≡ true → n ≤ 1
+flag-high f n h w =
+    let b = eqb-true (fieldRange f .high) on (and-right (eqb (fieldRange f .low) off) (eqb (fieldRange f .high) on) h) in
+    let l = between-high (fieldRange f .low) (fieldRange f .high) n w in
+    omega arith
 
-module _ (bs : List ℕ) (long : length bs ≡ totalWidth (layout current)) where
-  pub all-room : 14 + 5 * parameterCount ≤ length bs
-  all-room = omega (arith, width-174)
+-- what the tests on a list of flags tell of its first
+record First (f : Field) (fs : List Field) : Type 0 where
+  is-held : Held f
+  is-flag : flag f ≡ true
+  once : among fs (position f) ≡ false
+  rest : flags fs ≡ true
 
-  pub byte-room : 5 ≤ length bs
-  byte-room = omega (arith, width-174)
+first-tells : (f : Field) (fs : List Field) → flags (f ∷ fs) ≡ true → First f fs
+first-tells f fs h =
+    let a = and-left (held f && flag f) (not (among fs (position f)) && flags fs) h in
+    let b = and-right (held f && flag f) (not (among fs (position f)) && flags fs) h in
+    record {
+      is-held = held-is f (and-left (held f) (flag f) a);
+      is-flag = and-right (held f) (flag f) a;
+      once = not-so _ (and-left (not (among fs (position f))) (flags fs) b);
+      rest = and-right (not (among fs (position f))) (flags fs) b;
+    }
 
-  refused : (a : Outcome) (r : Record) → a ≡ K 4 → r ≡ lowRecord → (allIn (layout current) (unpack (layout current) bs) ≡ true → ⊥) → (a, r) ≡ bodyOf bs
-  refused a r e q n = body-field bs a r (no (allIn (layout current) (unpack (layout current) bs)) n) e q
-    where
-      no : (b : Bool) → (b ≡ true → ⊥) → b ≡ false
-      no true h = absurd (h refl)
-      no false h = refl
+-- ---- a number put into a field
+module _ (s : Record) (v : valid s ≡ true) (f : Field) (l : Held f) (n : ℕ) (w : within (fieldRange f) n ≡ true) where
+  own : get f (put f n s) ≡ n
+  own = let t = valid-tell s v in get-put-same s (t .values-length) (t .levels-length) f n l w
 
-  module _ (a : Outcome) (r : Record) (e : a ≡ K 4) (q : r ≡ lowRecord) where
-    -- the phase or the flags lie outside of their slots
-    pub body-phase : (x : Number) → x ≡ numberRead (getD (layout current) 2 noSlot) (getD bs 2 0) → x ≡ number.Outside → (a, r) ≡ bodyOf bs
-    unfolding layout
-    body-phase x k o =
-        refused a r e q (λ t.
-        let h = number-high (unpack (layout current) bs) 2 t (omega arith) in
-        outside-slot (getD (layout current) 2 noSlot) (getD bs 2 0) x k o (between-yes 0 4 (getD bs 2 0) (omega arith) (omega (arith, phase-byte bs all-room))))
+  -- where the number is another record's, and the rest agrees with it, so does all
+  agrees : (g : Field) (m : ℕ) → (f ≡ g → n ≡ m) → (eqb (position f) (position g) ≡ false → get g s ≡ m) → get g (put f n s) ≡ m
+  agrees g m same other =
+      by-test (eqb (position f) (position g))
+      (λ e. let q = same-field f g (eqb-true _ _ e) in ap (λ (h : Field). get h (put f n s)) (sym q) ∙ (own ∙ same q))
+      (λ e. get-put-other f g n s (eqb-false _ _ e) ∙ other e)
 
-    pub body-flags : (x : Number) → x ≡ numberRead (getD (layout current) 3 noSlot) (getD bs 3 0) → x ≡ number.Outside → (a, r) ≡ bodyOf bs
-    unfolding layout
-    body-flags x k o =
-        refused a r e q (λ t.
-        let h = number-high (unpack (layout current) bs) 3 t (omega arith) in
-        outside-slot (getD (layout current) 3 noSlot) (getD bs 3 0) x k o (between-yes 0 31 (getD bs 3 0) (omega arith) (omega (arith, flags-byte bs all-room))))
+-- ---- several flags
+bits-high : (r : Record) → valid r ≡ true → (fs : List Field) → flags fs ≡ true → bits r fs < 2 ^ length fs
+bits-high r v [] h = omega arith
+bits-high r v (f ∷ fs) h =
+    let t = first-tells f fs h in
+    let i = bits-high r v fs (t .rest) in
+    let b : get f r ≤ 1 = flag-high f (get f r) (t .is-flag) (field-in r v f (t .is-held)) in
+    let p : 2 ^ suc (length fs) ≡ 2 ^ length fs * 2 = pow-suc 2 (length fs) in
+    omega arith
 
-    pub body-invalid : (s : Record) (b : Bool) → s ≡ recordOf (unpack (layout current) bs) → b ≡ valid s → not b ≡ true → (a, r) ≡ bodyOf bs
-    body-invalid s b i v n =
-        refused a r e q
-        (λ t. false≢true (sym (not-true b n) ∙ (v ∙ (ap valid i ∙ numbers-valid (unpack (layout current) bs) (unpack-length (layout current) bs) t))))
+bits-valid : (fs : List Field) (n : ℕ) (s : Record) → flags fs ≡ true → valid s ≡ true → valid (putBits fs n s) ≡ true
+unfolding putBits
+bits-valid [] n s h v = v
+bits-valid (f ∷ fs) n s h v =
+    let t = first-tells f fs h in
+    put-kept (putBits fs (n / 2) s) (bits-valid fs (n / 2) s (t .rest) v) f (n % 2) (flag-within f (n % 2) (t .is-flag) (omega arith))
 
-  pub body-whole : (r : Record) (b : Bool) → getD bs 2 0 ≤ 4 → getD bs 3 0 ≤ 31 → r ≡ recordOf (unpack (layout current) bs) → b ≡ valid r → not b ≡ false → (done, r) ≡ bodyOf bs
-  body-whole r b p f i v n =
-      body-done bs r
-      (record-slots (unpack (layout current) bs) (omega (arith, phase-byte bs all-room)) (omega (arith, flags-byte bs all-room)) (unpack-length (layout current) bs)
-      (ap valid (sym i) ∙ valid-then r b v n)) i
+bits-other : (fs : List Field) (n : ℕ) (s : Record) (g : Field) → among fs (position g) ≡ false → get g (putBits fs n s) ≡ get g s
+unfolding putBits
+bits-other [] n s g h = refl
+bits-other (f ∷ fs) n s g h =
+    let d = neither (eqb (position f) (position g)) (among fs (position g)) h in
+    get-put-other f g (n % 2) (putBits fs (n / 2) s) (eqb-false _ _ (d .0)) ∙ bits-other fs (n / 2) s g (d .1)
 
--- the phase and the flags lie in their slots
-module _ (bs : List ℕ) (x : Number) (m : ℕ) where
-  pub phase-inside : x ≡ numberRead (getD (layout current) 2 noSlot) (getD bs 2 0) → x ≡ number.Inside m → getD bs 2 0 ≤ 4
-  unfolding layout
-  phase-inside k l = between-high 0 4 (getD bs 2 0) (inside-slot (getD (layout current) 2 noSlot) (getD bs 2 0) x k m l)
+bits-same : (fs : List Field) (x y : Record) → ((g : Field) → among fs (position g) ≡ true → get g x ≡ get g y) → bits x fs ≡ bits y fs
+bits-same [] x y h = refl
+bits-same (f ∷ fs) x y h =
+    let a : get f x ≡ get f y = h f (simp (eq-eqb (position f) (position f) refl)) in
+    let b : bits x fs ≡ bits y fs = bits-same fs x y (λ g m. h g (or-right (eqb (position f) (position g)) (among fs (position g)) m)) in
+    omega arith
 
-  pub flags-inside : x ≡ numberRead (getD (layout current) 3 noSlot) (getD bs 3 0) → x ≡ number.Inside m → getD bs 3 0 ≤ 31
-  unfolding layout
-  flags-inside k l = between-high 0 31 (getD bs 3 0) (inside-slot (getD (layout current) 3 noSlot) (getD bs 3 0) x k m l)
+-- a number below 2 ^ length is put and read again
+bits-back : (fs : List Field) (n : ℕ) (s : Record) → flags fs ≡ true → valid s ≡ true → n < 2 ^ length fs → bits (putBits fs n s) fs ≡ n
+unfolding putBits
+bits-back [] n s h v l = omega arith
+bits-back (f ∷ fs) n s h v l =
+    let t = first-tells f fs h in
+    let p : 2 ^ suc (length fs) ≡ 2 ^ length fs * 2 = pow-suc 2 (length fs) in
+    let u : Record = putBits fs (n / 2) s in
+    let i : bits u fs ≡ n / 2 = bits-back fs (n / 2) s (t .rest) v (omega arith) in
+    let o : get f (put f (n % 2) u) ≡ n % 2 =
+    own u (bits-valid fs (n / 2) s (t .rest) v) f (t .is-held) (n % 2) (flag-within f (n % 2) (t .is-flag) (omega arith)) in
+    let e : bits (put f (n % 2) u) fs ≡ bits u fs = bits-same fs (put f (n % 2) u) u (λ g m. get-put-other f g (n % 2) u (apart-from g m (t .once))) in
+    omega arith
+  where
+    apart-from : (g : Field) → among fs (position g) ≡ true → among fs (position f) ≡ false → position f ≡ position g → ⊥
+    apart-from g m o e = false≢true (sym o ∙ (ap (among fs) e ∙ m))
+
+-- the bits of a record, put into another, make it agree
+bits-agree : (r : Record) → valid r ≡ true → (fs : List Field) (s : Record) → flags fs ≡ true → valid s ≡ true → (g : Field)
+    → (among fs (position g) ≡ false → get g s ≡ get g r) → get g (putBits fs (bits r fs) s) ≡ get g r
+unfolding putBits
+bits-agree r v [] s h w g a = a refl
+bits-agree r v (f ∷ fs) s h w g a =
+    let t = first-tells f fs h in
+    let b : get f r ≤ 1 = flag-high f (get f r) (t .is-flag) (field-in r v f (t .is-held)) in
+    let m : (get f r + 2 * bits r fs) % 2 ≡ get f r = omega arith in
+    let d : (get f r + 2 * bits r fs) / 2 ≡ bits r fs = omega arith in
+    ap (λ (k : ℕ). get g (put f k (putBits fs ((get f r + 2 * bits r fs) / 2) s))) m ∙
+    (ap (λ (k : ℕ). get g (put f (get f r) (putBits fs k s))) d ∙
+    agrees (putBits fs (bits r fs) s) (bits-valid fs (bits r fs) s (t .rest) w) f (t .is-held) (get f r) (field-in r v f (t .is-held)) g (get g r)
+    (λ e. ap (λ (k : Field). get k r) e)
+    (λ e. bits-agree r v fs s (t .rest) w g (λ o. a (simp (e, o)))))
+
+power-low : (n : ℕ) → 1 ≤ 2 ^ n
+power-low zero = omega arith
+power-low (suc n) = let h = power-low n in let p : 2 ^ suc n ≡ 2 ^ n * 2 = pow-suc 2 n in omega arith
+
+-- a flag among several that are apart from some items is named by none of them
+apart-tells : (fs : List Field) (xs : List Item) → apart fs xs ≡ true → (g : Field) → among fs (position g) ≡ true → namesIn xs (position g) ≡ false
+apart-tells [] xs h g m = absurd (false≢true m)
+apart-tells (f ∷ fs) xs h g m =
+    either (eqb (position f) (position g)) (among fs (position g)) m
+    (λ e. ap (namesIn xs) (sym (eqb-true _ _ e)) ∙ not-so _ (and-left (not (namesIn xs (position f))) (apart fs xs) h))
+    (λ e. apart-tells fs xs (and-right (not (namesIn xs (position f))) (apart fs xs) h) g e)
+
+-- each field's low end lies in its range
+low-within : (f : Field) → Held f → within (fieldRange f) (fieldRange f .low) ≡ true
+unfolding rangeAt
+low-within address h = refl
+low-within access h = refl
+low-within phase h = refl
+low-within keypad h = refl
+low-within flow h = refl
+low-within changed h = refl
+low-within reset h = refl
+low-within powerfail h = refl
+low-within recipe h = refl
+low-within preset h = refl
+low-within raw h = refl
+low-within number h = refl
+low-within (value i) h = holds-below (λ (j : ℕ). within (rangeAt j) (rangeAt j .low)) parameterCount refl i (omega arith)
+low-within (level i) h = refl
+
+-- ---- items
+module _ (x : Item) (xs : List Item) (h : sound (x ∷ xs) ≡ true) where
+  sound-item : soundItem x xs ≡ true
+  sound-item = and-left (soundItem x xs) (sound xs) h
+
+  sound-rest : sound xs ≡ true
+  sound-rest = and-right (soundItem x xs) (sound xs) h
+
+-- a number within the item's slot keeps the record valid
+item-valid : (at : ℕ) (x : Item) (xs : List Item) (n : ℕ) (s : Record) → soundItem x xs ≡ true → inSlot (itemSlot at x) n ≡ true → valid s ≡ true → valid (putItem x n s) ≡ true
+item-valid at (alone w f) xs n s h i v = put-kept s v f n i
+item-valid at (together fs) xs n s h i v = bits-valid fs n s (and-left (flags fs) (apart fs xs) h) v
+
+pub all-valid : (at : ℕ) (xs : List Item) (ns : List ℕ) (s : Record) → sound xs ≡ true → allIn (slotsFrom at xs) ns ≡ true → valid s ≡ true → valid (putAll xs ns s) ≡ true
+unfolding putAll allIn slotsFrom
+all-valid at [] ns s h i v = v
+all-valid at (x ∷ xs) [] s h i v = v
+all-valid at (x ∷ xs) (n ∷ ns) s h i v =
+    all-valid (at + itemWidth x) xs ns (putItem x n s) (sound-rest x xs h) (and-right (inSlot (itemSlot at x) n) (allIn (slotsFrom (at + itemWidth x) xs) ns) i)
+    (item-valid at x xs n s (sound-item x xs h) (and-left (inSlot (itemSlot at x) n) (allIn (slotsFrom (at + itemWidth x) xs) ns) i) v)
+
+-- what no item names stays
+item-other : (x : Item) (n : ℕ) (s : Record) (g : Field) → names x (position g) ≡ false → get g (putItem x n s) ≡ get g s
+item-other (alone w f) n s g h = get-put-other f g n s (eqb-false _ _ h)
+item-other (together fs) n s g h = bits-other fs n s g h
+
+all-other : (xs : List Item) (ns : List ℕ) (s : Record) (g : Field) → namesIn xs (position g) ≡ false → get g (putAll xs ns s) ≡ get g s
+unfolding putAll
+all-other [] ns s g h = refl
+all-other (x ∷ xs) [] s g h = refl
+all-other (x ∷ xs) (n ∷ ns) s g h =
+    let d = neither (names x (position g)) (namesIn xs (position g)) h in all-other xs ns (putItem x n s) g (d .1) ∙ item-other x n s g (d .0)
+
+-- ---- a record's numbers lie in their slots
+item-in : (at : ℕ) (x : Item) (xs : List Item) (r : Record) → soundItem x xs ≡ true → valid r ≡ true → inSlot (itemSlot at x) (itemNumber r x) ≡ true
+item-in at (alone w f) xs r h v = field-in r v f (held-is f (and-left (held f) (not (namesIn xs (position f))) h))
+item-in at (together fs) xs r h v =
+    let l = bits-high r v fs (and-left (flags fs) (apart fs xs) h) in between-yes 0 (2 ^ length fs - 1) (bits r fs) (omega arith) (omega arith)
+
+pub all-in : (at : ℕ) (xs : List Item) (r : Record) → sound xs ≡ true → valid r ≡ true → allIn (slotsFrom at xs) (numbersOf xs r) ≡ true
+unfolding allIn slotsFrom numbersOf
+all-in at [] r h v = refl
+all-in at (x ∷ xs) r h v =
+    and-yes (inSlot (itemSlot at x) (itemNumber r x)) (allIn (slotsFrom (at + itemWidth x) xs) (map (itemNumber r) xs)) (item-in at x xs r (sound-item x xs h) v)
+    (all-in (at + itemWidth x) xs r (sound-rest x xs h) v)
+
+-- ---- numbers that are put are read again
+item-back : (at : ℕ) (x : Item) (xs : List Item) (n : ℕ) (ns : List ℕ) (s : Record) → soundItem x xs ≡ true → inSlot (itemSlot at x) n ≡ true → valid s ≡ true
+    → itemNumber (putAll xs ns (putItem x n s)) x ≡ n
+item-back at (alone w f) xs n ns s h i v =
+    all-other xs ns (put f n s) f (not-so _ (and-right (held f) (not (namesIn xs (position f))) h)) ∙
+    own s v f (held-is f (and-left (held f) (not (namesIn xs (position f))) h)) n i
+item-back at (together fs) xs n ns s h i v =
+    let k = flags-told fs xs h in
+    let high : n ≤ 2 ^ length fs - 1 = between-high 0 (2 ^ length fs - 1) n i in
+    let p : 1 ≤ 2 ^ length fs = power-low (length fs) in
+    bits-same fs (putAll xs ns (putBits fs n s)) (putBits fs n s) (λ g m. all-other xs ns (putBits fs n s) g (apart-tells fs xs (and-right (flags fs) (apart fs xs) h) g m)) ∙
+    bits-back fs n s k v (omega arith)
+  where
+    flags-told : (gs : List Field) (ys : List Item) → flags gs && apart gs ys ≡ true → flags gs ≡ true
+    flags-told gs ys q = and-left (flags gs) (apart gs ys) q
+
+pub all-back : (at : ℕ) (xs : List Item) (ns : List ℕ) (s : Record) → sound xs ≡ true → length ns ≡ length xs → allIn (slotsFrom at xs) ns ≡ true → valid s ≡ true
+    → numbersOf xs (putAll xs ns s) ≡ ns
+unfolding putAll allIn slotsFrom numbersOf
+all-back at [] [] s h l i v = refl
+all-back at [] (n ∷ ns) s h l i v = absurd (omega arith)
+all-back at (x ∷ xs) [] s h l i v = absurd (omega arith)
+all-back at (x ∷ xs) (n ∷ ns) s h l i v =
+    let a = and-left (inSlot (itemSlot at x) n) (allIn (slotsFrom (at + itemWidth x) xs) ns) i in
+    let b = and-right (inSlot (itemSlot at x) n) (allIn (slotsFrom (at + itemWidth x) xs) ns) i in
+    ap (λ (m : ℕ). m ∷ map (itemNumber (putAll xs ns (putItem x n s))) xs) (item-back at x xs n ns s (sound-item x xs h) a v) ∙
+    ap (λ (ms : List ℕ). n ∷ ms)
+    (all-back (at + itemWidth x) xs ns (putItem x n s) (sound-rest x xs h) (omega arith) b (item-valid at x xs n s (sound-item x xs h) a v))
+
+-- ---- a record's numbers, put into another, make it agree
+item-agrees : (r : Record) → valid r ≡ true → (x : Item) (xs : List Item) (s : Record) → soundItem x xs ≡ true → valid s ≡ true → (g : Field)
+    → (names x (position g) ≡ false → get g s ≡ get g r) → get g (putItem x (itemNumber r x) s) ≡ get g r
+item-agrees r v (alone w f) xs s h u g a =
+    let l = held-is f (and-left (held f) (not (namesIn xs (position f))) h) in
+    agrees s u f l (get f r) (field-in r v f l) g (get g r) (λ e. ap (λ (k : Field). get k r) e) a
+item-agrees r v (together fs) xs s h u g a = bits-agree r v fs s (and-left (flags fs) (apart fs xs) h) u g a
+
+all-agrees : (r : Record) → valid r ≡ true → (at : ℕ) (xs : List Item) (s : Record) → sound xs ≡ true → valid s ≡ true → (g : Field)
+    → (namesIn xs (position g) ≡ false → get g s ≡ get g r) → get g (putAll xs (numbersOf xs r) s) ≡ get g r
+unfolding putAll numbersOf
+all-agrees r v at [] s h u g a = a refl
+all-agrees r v at (x ∷ xs) s h u g a =
+    all-agrees r v at xs (putItem x (itemNumber r x) s) (sound-rest x xs h)
+    (item-valid at x xs (itemNumber r x) s (sound-item x xs h) (item-in at x xs r (sound-item x xs h) v) u) g
+    (λ o. item-agrees r v x xs s (sound-item x xs h) u g (λ e. a (simp (e, o))))
+
+-- ---- what is stored
+items-sound : sound (items current) ≡ true
+items-sound = refl
+
+-- every field of a record is
+items-name-all : (g : Field) → Held g → namesIn (items current) (position g) ≡ true
+items-name-all g h = holds-below (namesIn (items current)) (position (value parameterCount)) refl (position g) h
+
+-- the record beside a refusal is valid
+pub low-valid : valid lowRecord ≡ true
+unfolding lowRecord
+low-valid = from-valid (λ (f : Field). fieldRange f .low) low-within
+
+module _ (at : ℕ) (r : Record) (v : valid r ≡ true) where
+  pub numbers-in : allIn (slotsFrom at (items current)) (numbersOf (items current) r) ≡ true
+  numbers-in = all-in at (items current) r items-sound v
+
+  pub record-of-numbers : putAll (items current) (numbersOf (items current) r) lowRecord ≡ r
+  record-of-numbers =
+      same-fields (putAll (items current) (numbersOf (items current) r) lowRecord) r
+      (all-valid at (items current) (numbersOf (items current) r) lowRecord items-sound numbers-in low-valid) v
+      (λ g h. all-agrees r v at (items current) lowRecord items-sound low-valid g (λ o. absurd (false≢true (sym o ∙ items-name-all g h))))
+
+module _ (at : ℕ) (ns : List ℕ) (inside : allIn (slotsFrom at (items current)) ns ≡ true) where
+  pub numbers-valid : valid (putAll (items current) ns lowRecord) ≡ true
+  numbers-valid = all-valid at (items current) ns lowRecord items-sound inside low-valid
+
+  pub numbers-of-record : length ns ≡ length (items current) → numbersOf (items current) (putAll (items current) ns lowRecord) ≡ ns
+  numbers-of-record l = all-back at (items current) ns lowRecord items-sound l inside low-valid

@@ -1,12 +1,14 @@
 -- Document 01, "Stored record": the bytes of a record, and what writing and reading answer.
 use Prim.Native.Nat.{ℕ, zero, suc, _+_, _*_, _/_, _%_}
 use mathlib.Core.Bool.{Bool, true, false, _&&_}
-use mathlib.Core.List.{List, [], _∷_, _++_, map}
+use mathlib.Core.List.{List, [], _∷_, _++_}
 use lib.Dec.{eqb, leb}
 use lib.ListN.{length, getD, take, drop}
+use lib.Seq.{sets}
 use Rattle.base.specs.Test.{unless, pick, between}
 use Rattle.base.specs.Lists.{over}
 use Rattle.state.specs.declared.Record.{Record}
+use Rattle.state.specs.Field.{fieldRange, recordFrom}
 use Rattle.state.specs.Valid.{valid}
 use Rattle.stored.specs.declared.Slot.{Slot}
 use Rattle.stored.specs.declared.Refusal.{Refusal}
@@ -19,7 +21,7 @@ use Rattle.stored.specs.declared.Answer.{Answer}
 use Rattle.stored.specs.declared.Answer.the-variants as answer
 use Rattle.stored.specs.declared.Number.{Number}
 use Rattle.stored.specs.declared.Number.the-variants as number
-use Rattle.stored.specs.Layout.{current, layout, numbersOf, recordOf}
+use Rattle.stored.specs.Layout.{Item, current, items, itemWidth, totalWidth, headerWidth, slotsFrom, numbersOf, putAll}
 
 -- ---- the code's answers as document 01 numbers them: K1 to K6, or done
 pub data Outcome : Type 0 where
@@ -57,15 +59,27 @@ numberFrom a (b ∷ bs) = numberFrom (a * 256 + b) bs
 abbrev pub numberOf : List ℕ → ℕ
 numberOf bs = numberFrom 0 bs
 
--- numbers one behind the other, each in its slot's width
-unfoldable pub pack : List Slot → List ℕ → List ℕ
+-- numbers one behind the other, each in its item's width
+unfoldable pub pack : List Item → List ℕ → List ℕ
 pack [] ns = []
-pack (s ∷ ss) [] = []
-pack (s ∷ ss) (n ∷ ns) = bigEndian (s .width) n ++ pack ss ns
+pack (x ∷ xs) [] = []
+pack (x ∷ xs) (n ∷ ns) = bigEndian (itemWidth x) n ++ pack xs ns
 
-unfoldable pub unpack : List Slot → List ℕ → List ℕ
-unpack [] bs = []
-unpack (s ∷ ss) bs = numberOf (take (s .width) bs) ∷ unpack ss (drop (s .width) bs)
+-- the bytes of the numbers that a record has for some items
+abbrev pub packed : List Item → Record → List ℕ
+packed xs r = pack xs (numbersOf xs r)
+
+-- the numbers in the slots of stored bytes
+abbrev pub numberAt : List ℕ → Slot → ℕ
+numberAt bs s = numberOf (take (s .width) (drop (s .at) bs))
+
+unfoldable pub numbersIn : List Slot → List ℕ → List ℕ
+numbersIn [] bs = []
+numbersIn (s ∷ ss) bs = numberAt bs s ∷ numbersIn ss bs
+
+-- a number stored in its slot
+abbrev pub stored : Slot → ℕ → List ℕ → List ℕ
+stored s n o = sets o (s .at) (bigEndian (s .width) n)
 
 abbrev pub inSlot : Slot → ℕ → Bool
 inSlot s n = between (s .low) (s .high) n
@@ -75,20 +89,17 @@ allIn [] ns = true
 allIn (s ∷ ss) [] = false
 allIn (s ∷ ss) (n ∷ ns) = inSlot s n && allIn ss ns
 
-unfoldable pub totalWidth : List Slot → ℕ
-totalWidth [] = 0
-totalWidth (s ∷ ss) = s .width + totalWidth ss
-
 -- ---- the stored form: "version 1; total length in 2 bytes, high first"; then the numbers
-abbrev pub headerWidth : ℕ
-headerWidth = 3
 
 -- "177 bytes"; 0 for a version that is not known
 unfoldable pub storedLength : ℕ → ℕ
-storedLength version = pick (eqb version current) (headerWidth + totalWidth (layout version)) 0
+storedLength version = pick (eqb version current) (headerWidth + totalWidth (items version)) 0
+
+abbrev pub heading : List ℕ
+heading = current ∷ bigEndian 2 (storedLength current)
 
 unfoldable pub storedForm : Record → List ℕ
-storedForm r = current ∷ (bigEndian 2 (storedLength current) ++ pack (layout current) (numbersOf current r))
+storedForm r = heading ++ packed (items current) r
 
 -- ---- writing: "it refuses K5 record not valid, K6 buffer under 177; buffer untouched"
 unfoldable pub writeOf : Record → List ℕ → Outcome × List ℕ
@@ -107,22 +118,26 @@ headerOf bs =
 
 -- "a record with every field at its low end, Idle and flags off"
 unfoldable pub lowRecord : Record
-lowRecord = recordOf (map (λ (s : Slot). s .low) (layout current))
+lowRecord = recordFrom (λ f. fieldRange f .low)
 
--- the numbers behind the header
+-- what the numbers in the slots of some items make of a record: each goes into its field, if all lie in their slots
+unfoldable pub takenFrom : ℕ → List Item → List ℕ → Record → Outcome × Record
+takenFrom at xs bs r =
+    unless (allIn (slotsFrom at xs) (numbersIn (slotsFrom at xs) bs)) (K 4, lowRecord)
+    (done, putAll xs (numbersIn (slotsFrom at xs) bs) r)
+
+-- a field that the version does not store is at its low end
 unfoldable pub bodyOf : List ℕ → Outcome × Record
-bodyOf bs =
-    unless (allIn (layout current) (unpack (layout current) bs)) (K 4, lowRecord)
-    (done, recordOf (unpack (layout current) bs))
+bodyOf bs = takenFrom headerWidth (items current) bs lowRecord
 
 -- "beside the number it then gives" the low record
 abbrev pub afterHeader : Outcome → List ℕ → Outcome × Record
 afterHeader (K k) bs = (K k, lowRecord)
-afterHeader done bs = bodyOf (drop headerWidth bs)
+afterHeader done bs = bodyOf bs
 
 unfoldable pub readOf : List ℕ → Outcome × Record
 readOf bs = afterHeader (headerOf bs) bs
 
--- a number that is read, if it is within its slot
-unfoldable pub numberRead : Slot → ℕ → Number
-numberRead s n = unless (inSlot s n) number.Outside (number.Inside n)
+-- the number in a slot, if it lies in its range
+unfoldable pub numberRead : Slot → List ℕ → Number
+numberRead s bs = unless (inSlot s (numberAt bs s)) number.Outside (number.Inside (numberAt bs s))

@@ -1,13 +1,13 @@
--- Document 01, "Stored record": which numbers of a record are stored, in how many bytes each, and within which range.
+-- Document 01, "Stored record": which numbers of a record are stored, in how many bytes each, and within which range. Reading, writing
+-- and the length follow from the one list of items.
 use Prim.Native.Nat.{ℕ, zero, suc, _+_, _-_, _*_, _/_, _%_, _^_}
-use mathlib.Core.Bool.{Bool}
 use mathlib.Core.List.{List, [], _∷_, _++_, map}
 use lib.Dec.{eqb}
-use lib.ListN.{length, getD, drop}
-use Rattle.state.specs.declared.Record.{Record}
+use lib.ListN.{length}
 use Rattle.base.specs.Test.{pick}
+use Rattle.state.specs.declared.Record.{Record}
 use Rattle.state.specs.Parameter.{parameterCount}
-use Rattle.state.specs.Field.{Field, address, access, phase, keypad, flow, changed, reset, powerfail, recipe, preset, raw, number, value, level, get, fieldRange, phaseOf, flagOf}
+use Rattle.state.specs.Field.{Field, address, access, phase, keypad, flow, changed, reset, powerfail, recipe, preset, raw, number, value, level, get, put, fieldRange}
 use Rattle.stored.specs.declared.Slot.{Slot}
 
 -- one stored number: a field alone in so many bytes, or several flags together in one byte, the first in the lowest bit
@@ -15,26 +15,61 @@ pub data Item : Type 0 where
   alone : ℕ → Field → Item
   together : List Field → Item
 
--- "for each parameter in rising code, value 4 and level 1": of the first n parameters
-abbrev pub parameterItems : ℕ → List Item
-parameterItems zero = []
-parameterItems (suc n) = parameterItems n ++ (alone 4 (value n) ∷ alone 1 (level n) ∷ [])
-
 -- "flags (1 keypad, 2 flow, 4 changed, 8 batch reset, 16 power fail, rest 0)"
 abbrev pub flagFields : List Field
 flagFields = keypad ∷ flow ∷ changed ∷ reset ∷ powerfail ∷ []
 
--- "address; access; phase 0..4 ..; flags ..; recipe; preset 3 bytes; raw 4; number 2; then for each parameter .."
-abbrev pub firstItems : List Item
-firstItems =
-    alone 1 address ∷ alone 1 access ∷ alone 1 phase ∷ together flagFields ∷ alone 1 recipe ∷ alone 3 preset ∷ alone 4 raw ∷ alone 2 number ∷ parameterItems parameterCount
+-- "address; access; phase 0..4 ..; flags ..; recipe; preset 3 bytes; raw 4; number 2"
+abbrev pub scalarItems : List Item
+scalarItems =
+    alone 1 address ∷ alone 1 access ∷ alone 1 phase ∷ together flagFields ∷ alone 1 recipe ∷ alone 3 preset ∷ alone 4 raw ∷ alone 2 number ∷ []
+
+-- "then for each parameter in rising code, value 4 and level 1": of the first n parameters
+abbrev pub parameterItems : ℕ → List Item
+parameterItems zero = []
+parameterItems (suc n) = parameterItems n ++ (alone 4 (value n) ∷ alone 1 (level n) ∷ [])
 
 -- what each version stores: there is version 1
 abbrev pub current : ℕ
 current = 1
 
 abbrev pub items : ℕ → List Item
-items version = pick (eqb version current) firstItems []
+items version = pick (eqb version current) (scalarItems ++ parameterItems parameterCount) []
+
+-- ---- where each stands: one behind the other, behind "version 1; total length in 2 bytes"
+abbrev pub headerWidth : ℕ
+headerWidth = 3
+
+abbrev pub itemWidth : Item → ℕ
+itemWidth (alone w f) = w
+itemWidth (together fs) = 1
+
+abbrev pub totalWidth : List Item → ℕ
+totalWidth [] = 0
+totalWidth (x ∷ xs) = itemWidth x + totalWidth xs
+
+abbrev pub slotOf : ℕ → ℕ → ℕ → ℕ → Slot
+slotOf a w l h = record { at = a; width = w; low = l; high = h }
+
+-- the slot of an item: its place, its width, and the range of the number in it
+abbrev pub itemSlot : ℕ → Item → Slot
+itemSlot a (alone w f) = slotOf a w (fieldRange f .low) (fieldRange f .high)
+itemSlot a (together fs) = slotOf a 1 0 (2 ^ length fs - 1)
+
+unfoldable pub slotsFrom : ℕ → List Item → List Slot
+slotsFrom at [] = []
+slotsFrom at (x ∷ xs) = itemSlot at x ∷ slotsFrom (at + itemWidth x) xs
+
+unfoldable pub layout : ℕ → List Slot
+layout version = slotsFrom headerWidth (items version)
+
+-- where the parameters' numbers begin
+abbrev pub parametersAt : ℕ
+parametersAt = headerWidth + totalWidth scalarItems
+
+-- beyond the last place there is an empty slot
+abbrev pub noSlot : Slot
+noSlot = slotOf 0 0 0 0
 
 -- ---- a record as its stored numbers
 abbrev pub bits : Record → List Field → ℕ
@@ -45,51 +80,19 @@ abbrev pub itemNumber : Record → Item → ℕ
 itemNumber r (alone w f) = get f r
 itemNumber r (together fs) = bits r fs
 
-unfoldable pub numbersOf : ℕ → Record → List ℕ
-numbersOf version r = map (itemNumber r) (items version)
+unfoldable pub numbersOf : List Item → Record → List ℕ
+numbersOf xs r = map (itemNumber r) xs
 
--- ---- how many bytes each takes, and its range
-abbrev pub itemSlot : Item → Slot
-itemSlot (alone w f) = record { width = w; low = fieldRange f .low; high = fieldRange f .high }
-itemSlot (together fs) = record { width = 1; low = 0; high = 2 ^ length fs - 1 }
+-- ---- the record that stored numbers are: each number goes into its field
+unfoldable pub putBits : List Field → ℕ → Record → Record
+putBits [] n r = r
+putBits (f ∷ fs) n r = put f (n % 2) (putBits fs (n / 2) r)
 
-unfoldable pub layout : ℕ → List Slot
-layout version = map itemSlot (items version)
+abbrev pub putItem : Item → ℕ → Record → Record
+putItem (alone w f) n r = put f n r
+putItem (together fs) n r = putBits fs n r
 
--- the slot at a place of the layout; beyond the last an empty one
-abbrev pub noSlot : Slot
-noSlot = record { width = 0; low = 0; high = 0 }
-
--- ---- the record that stored numbers are
-abbrev pub evens : List ℕ → List ℕ
-evens [] = []
-evens (x ∷ []) = x ∷ []
-evens (x ∷ y ∷ xs) = x ∷ evens xs
-
-abbrev pub odds : List ℕ → List ℕ
-odds [] = []
-odds (x ∷ []) = []
-odds (x ∷ y ∷ xs) = y ∷ odds xs
-
--- the bit of weight w
-abbrev pub bit : ℕ → ℕ → Bool
-bit w n = flagOf (n / w % 2)
-
-unfoldable pub recordOf : List ℕ → Record
-recordOf ns =
-    record {
-      address = getD ns 0 0;
-      access = getD ns 1 0;
-      phase = phaseOf (getD ns 2 0);
-      keypad = bit 1 (getD ns 3 0);
-      flow = bit 2 (getD ns 3 0);
-      changed = bit 4 (getD ns 3 0);
-      reset = bit 8 (getD ns 3 0);
-      powerfail = bit 16 (getD ns 3 0);
-      recipe = getD ns 4 0;
-      preset = getD ns 5 0;
-      raw = getD ns 6 0;
-      number = getD ns 7 0;
-      values = evens (drop 8 ns);
-      levels = odds (drop 8 ns);
-    }
+unfoldable pub putAll : List Item → List ℕ → Record → Record
+putAll [] ns r = r
+putAll (x ∷ xs) [] r = r
+putAll (x ∷ xs) (n ∷ ns) r = putAll xs ns (putItem x n r)

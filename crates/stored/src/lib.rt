@@ -5,16 +5,13 @@ use state::Phase;
 use state::RECIPES;
 use state::Record;
 ghost use mathlib.Core.Path.{_≡_};
-ghost use mathlib.Core.Bool.{true};
-ghost use mathlib.Core.List.{_∷_};
 ghost use Prim.Native.Nat.{_+_, _*_, _≤_, _<_};
-ghost use lib.ListN.{length, getD, take, drop};
+ghost use lib.ListN.{length, getD};
 ghost use lib.Seq.{sets};
 ghost use Rattle.state.specs.Parameter.{parameterCount};
-ghost use Rattle.state.specs.Field.{phaseOf, flagNumber};
-ghost use Rattle.state.specs.Valid.{valid};
-ghost use Rattle.stored.specs.Layout.{current, layout, noSlot, flagFields, bits, numbersOf, recordOf};
-ghost use Rattle.stored.specs.Form.{storedLength, headerAs, answerAs, writtenAs, refusalNumber, K, bigEndian, numberOf, pack, unpack, totalWidth, writeOf, headerOf, lowRecord, bodyOf, readOf, numberRead};
+ghost use Rattle.state.specs.Field.{value, level, phaseOf, flagNumber};
+ghost use Rattle.stored.specs.Layout.{alone, scalarItems, parameterItems, current, headerWidth, parametersAt, itemSlot, slotOf, layout, noSlot, flagFields, bits, numbersOf};
+ghost use Rattle.stored.specs.Form.{headerAs, answerAs, writtenAs, refusalNumber, K, bigEndian, numberOf, packed, stored, storedLength, heading, writeOf, headerOf, lowRecord, takenFrom, bodyOf, readOf, numberRead};
 
 // The version that is written.
 pub const VERSION: u8 = 1;
@@ -22,20 +19,36 @@ pub const VERSION: u8 = 1;
 // Version and total length.
 const HEADER: usize = 3;
 
-// Numbers stored before those of the parameters.
+// The stored numbers by their place: these, and then each parameter's value and level.
+const ADDRESS: usize = 0;
+
+const ACCESS: usize = 1;
+
+const PHASE: usize = 2;
+
+const FLAGS: usize = 3;
+
+const RECIPE: usize = 4;
+
+const PRESET: usize = 5;
+
+const RAW: usize = 6;
+
+const NUMBER: usize = 7;
+
 const SCALARS: usize = 8;
 
-// All stored numbers: a parameter has its value and its level.
 const NUMBERS: usize = SCALARS + 2 * PARAMETERS;
 
-// Bytes of the numbers stored before those of the parameters.
-const SCALAR_BYTES: usize = 14;
+// Where the parameters' numbers begin.
+const PARAMETERS_AT: usize = HEADER + 14;
 
 // Bytes in all: a parameter's value takes 4, its level 1.
-pub const STORED_LENGTH: usize = HEADER + SCALAR_BYTES + 5 * PARAMETERS;
+pub const STORED_LENGTH: usize = PARAMETERS_AT + 5 * PARAMETERS;
 
-// Where a number is stored: in how many bytes, and within which range.
+// Where a number is stored, in how many bytes, and within which range.
 pub struct Slot {
+    pub at: usize,
     pub width: usize,
     pub low: u32,
     pub high: u32,
@@ -85,7 +98,7 @@ pub enum Written {
     Whole,
 }
 
-// ---- the layout
+// ---- the layout: the one table that reading and writing go by
 
 // How many bytes a version takes; 0 for a version that is not known.
 pub fn stored_length(version: u8) -> usize
@@ -97,96 +110,106 @@ pub fn stored_length(version: u8) -> usize
     0
 }
 
-// The slot of the number at place k of a version's layout; an empty one beyond the last.
-pub fn slot_at(version: u8, k: usize) -> Slot
-    ensures { λ s. ⌜ s ≡ getD (layout version) k noSlot ⌝ }
+// The slot of the number at a place of a version's layout; an empty one beyond the last.
+pub fn slot_at(version: u8, place: usize) -> Slot
+    ensures { λ s. ⌜ s ≡ getD (layout version) place noSlot ⌝ }
 {
     if version != VERSION {
         return nowhere();
     }
-    if k < SCALARS {
-        return scalar_slot(k);
+    if place < SCALARS {
+        return scalar_slot(place);
     }
-    if NUMBERS <= k {
+    if NUMBERS <= place {
         return nowhere();
     }
-    if (k - SCALARS) % 2 == 1 {
-        return Slot {
-            width: 1,
-            low: 0,
-            high: 3,
-        };
+    let i = (place - SCALARS) / 2;
+    if (place - SCALARS) % 2 == 1 {
+        return level_slot(i);
     }
-    let range = state::range_at((k - SCALARS) / 2);
-    Slot {
-        width: 4,
-        low: range.low,
-        high: range.high,
-    }
+    value_slot(i)
 }
 
 fn nowhere() -> Slot
     ensures { λ s. ⌜ s ≡ noSlot ⌝ }
 {
     Slot {
+        at: 0,
         width: 0,
         low: 0,
         high: 0,
     }
 }
 
-// Address, access, phase, flags, recipe, preset, raw and number.
-const WIDTHS: [usize; SCALARS] = [1, 1, 1, 1, 1, 3, 4, 2];
-
-const LOWS: [u32; SCALARS] = [1, 0, 0, 0, 1, 0, 0, 1];
-
-const HIGHS: [u32; SCALARS] = [99, 3, 4, 31, RECIPES as u32, 999999, 99999999, 9999];
-
-fn scalar_slot(k: usize) -> Slot
-    requires { ⌜ k + 1 ≤ 8 ⌝ }
-    ensures { λ s. ⌜ s ≡ getD (layout current) k noSlot ⌝ }
+fn slot_of(at: usize, width: usize, low: u32, high: u32) -> Slot
+    ensures { λ s. ⌜ s ≡ slotOf at width low high ⌝ }
 {
     Slot {
-        width: WIDTHS[k],
-        low: LOWS[k],
-        high: HIGHS[k],
+        at: at,
+        width: width,
+        low: low,
+        high: high,
     }
+}
+
+fn scalar_slot(place: usize) -> Slot
+    requires { ⌜ place < 8 ⌝ }
+    ensures { λ s. ⌜ s ≡ getD (layout current) place noSlot ⌝ }
+{
+    match place {
+        ADDRESS => slot_of(3, 1, 1, 99),
+        ACCESS => slot_of(4, 1, 0, 3),
+        PHASE => slot_of(5, 1, 0, 4),
+        FLAGS => slot_of(6, 1, 0, 31),
+        RECIPE => slot_of(7, 1, 1, RECIPES as u32),
+        PRESET => slot_of(8, 3, 0, 999999),
+        RAW => slot_of(11, 4, 0, 99999999),
+        _ => slot_of(15, 2, 1, 9999),
+    }
+}
+
+fn value_slot(i: usize) -> Slot
+    requires { ⌜ i < parameterCount ⌝ }
+    ensures { λ s. ⌜ s ≡ itemSlot (parametersAt + 5 * i) (alone 4 (value i)) ⌝ }
+{
+    let range = state::range_at(i);
+    slot_of(PARAMETERS_AT + 5 * i, 4, range.low, range.high)
+}
+
+fn level_slot(i: usize) -> Slot
+    requires { ⌜ i < parameterCount ⌝ }
+    ensures { λ s. ⌜ s ≡ itemSlot (parametersAt + 5 * i + 4) (alone 1 (level i)) ⌝ }
+{
+    slot_of(PARAMETERS_AT + 5 * i + 4, 1, 0, 3)
 }
 
 // ---- numbers as bytes, high byte first
 
-// The number in two bytes.
-fn two(s: &[u8], at: usize) -> u32
-    requires { ⌜ at + 2 ≤ length (now s) ⌝ }
-    ensures { λ n. ⌜ (n ≡ numberOf (take 2 (drop at (now (s .entry))))) × (n < 65536) ⌝ }
+// The number that up to four bytes are.
+fn number_in(s: &[u8]) -> u32
+    requires { ⌜ length (now s) ≤ 4 ⌝ }
+    ensures { λ n. ⌜ n ≡ numberOf (now (s .entry)) ⌝ }
 {
-    wide(s[at]) * 256 + wide(s[at + 1])
+    let mut n = 0;
+    let mut i = 0;
+    while i < s.len() {
+        n = n * 256 + wide(s[i]);
+        i += 1;
+    }
+    n
 }
 
-// The number in four bytes.
-fn four(s: &[u8], at: usize) -> u32
-    requires { ⌜ at + 4 ≤ length (now s) ⌝ }
-    ensures { λ n. ⌜ n ≡ numberOf (take 4 (drop at (now (s .entry)))) ⌝ }
+// Fills all of out with a number's low bytes.
+fn fill(n: u32, out: &mut [u8])
+    ensures { λ _. ⌜ now (out .exit) ≡ bigEndian (length (now (out .entry))) n ⌝ }
 {
-    two(s, at) * 65536 + two(s, at + 2)
-}
-
-// Stores a number's two low bytes.
-fn put_two(n: u32, at: usize, out: &mut [u8])
-    requires { ⌜ at + 2 ≤ length (now out) ⌝ }
-    ensures { λ _. ⌜ now (out .exit) ≡ sets (now (out .entry)) at (bigEndian 2 n) ⌝ }
-{
-    out[at] = (n / 256 % 256) as u8;
-    out[at + 1] = (n % 256) as u8;
-}
-
-// Stores a number's four bytes.
-fn put_four(n: u32, at: usize, out: &mut [u8])
-    requires { ⌜ at + 4 ≤ length (now out) ⌝ }
-    ensures { λ _. ⌜ now (out .exit) ≡ sets (now (out .entry)) at (bigEndian 4 n) ⌝ }
-{
-    put_two(n / 65536, at, out);
-    put_two(n, at + 2, out);
+    let mut rest = n;
+    let mut left = out.len();
+    while 0 < left {
+        left -= 1;
+        out[left] = (rest % 256) as u8;
+        rest = rest / 256;
+    }
 }
 
 // ---- writing
@@ -210,42 +233,65 @@ fn flags(r: Record) -> u8
                 + 2 * (flag(r.changed) + 2 * (flag(r.reset) + 2 * (flag(r.powerfail) + 0))))
 }
 
-// The version and the length.
+// Stores the version and the length.
 fn put_header(out: &mut [u8])
     requires { ⌜ 3 ≤ length (now out) ⌝ }
-    ensures { λ _. ⌜ now (out .exit) ≡ sets (now (out .entry)) 0 (current ∷ bigEndian 2 (storedLength current)) ⌝ }
+    ensures { λ _. ⌜ now (out .exit) ≡ sets (now (out .entry)) 0 heading ⌝ }
 {
     out[0] = VERSION;
-    put_two(STORED_LENGTH as u32, 1, out);
+    fill(STORED_LENGTH as u32, &mut out[1..3]);
+}
+
+// Stores the number at a place of the layout.
+fn put_number(n: u32, place: usize, out: &mut [u8])
+    requires { ⌜ (place < length (layout current)) × (storedLength current ≤ length (now out)) ⌝ }
+    ensures { λ _. ⌜ (length (now (out .exit)) ≡ length (now (out .entry))) × (now (out .exit) ≡ stored (getD (layout current) place noSlot) n (now (out .entry))) ⌝ }
+{
+    let slot = slot_at(VERSION, place);
+    let at = slot.at;
+    let end = at + slot.width;
+    fill(n, &mut out[at..end]);
+}
+
+// The number at a place before the parameters'.
+fn scalar(r: Record, place: usize) -> u32
+    requires { ⌜ place < 8 ⌝ }
+    ensures { λ n. ⌜ n ≡ getD (numbersOf scalarItems r) place 0 ⌝ }
+{
+    let phase = r.phase;
+    match place {
+        ADDRESS => wide(r.address),
+        ACCESS => wide(r.access),
+        PHASE => wide(state::phase_number(phase)),
+        FLAGS => wide(flags(r)),
+        RECIPE => wide(r.recipe),
+        PRESET => r.preset,
+        RAW => r.raw,
+        _ => r.number as u32,
+    }
 }
 
 // The numbers but the parameters', behind the header.
 fn put_scalars(r: Record, out: &mut [u8])
-    requires { ⌜ (valid r ≡ true) × (17 ≤ length (now out)) ⌝ }
-    ensures { λ _. ⌜ now (out .exit) ≡ sets (now (out .entry)) 3 (pack (take 8 (layout current)) (take 8 (numbersOf current r))) ⌝ }
+    requires { ⌜ storedLength current ≤ length (now out) ⌝ }
+    ensures { λ _. ⌜ now (out .exit) ≡ sets (now (out .entry)) headerWidth (packed scalarItems r) ⌝ }
 {
-    let phase = r.phase;
-    out[3] = r.address;
-    out[4] = r.access;
-    out[5] = state::phase_number(phase);
-    out[6] = flags(r);
-    out[7] = r.recipe;
-    out[8] = (r.preset / 65536 % 256) as u8;
-    put_two(r.preset, 9, out);
-    put_four(r.raw, 11, out);
-    put_two(r.number as u32, 15, out);
+    let mut place = 0;
+    while place < SCALARS {
+        put_number(scalar(r, place), place, out);
+        place += 1;
+    }
 }
 
 // The parameters' numbers, behind those.
 fn put_parameters(r: Record, out: &mut [u8])
-    requires { ⌜ (valid r ≡ true) × (17 + 5 * parameterCount ≤ length (now out)) ⌝ }
-    ensures { λ _. ⌜ now (out .exit) ≡ sets (now (out .entry)) 17 (pack (drop 8 (layout current)) (drop 8 (numbersOf current r))) ⌝ }
+    requires { ⌜ storedLength current ≤ length (now out) ⌝ }
+    ensures { λ _. ⌜ now (out .exit) ≡ sets (now (out .entry)) parametersAt (packed (parameterItems parameterCount) r) ⌝ }
 {
     let mut i = 0;
     while i < PARAMETERS {
-        let at = HEADER + SCALAR_BYTES + 5 * i;
-        put_four(r.values[i], at, out);
-        out[at + 4] = r.levels[i];
+        put_number(r.values[i], SCALARS + 2 * i, out);
+        put_number(wide(r.levels[i]), SCALARS + 2 * i + 1, out);
         i += 1;
     }
 }
@@ -278,10 +324,25 @@ fn read_header(s: &[u8]) -> Header
     if s[0] != VERSION {
         return Header::Refused(Refusal::Version);
     }
-    if two(s, 1) as usize != STORED_LENGTH {
+    if number_in(&s[1..3]) as usize != STORED_LENGTH {
         return Header::Refused(Refusal::LengthField);
     }
     Header::Good
+}
+
+// Reads the number at a place of the layout, which must lie in its slot's range.
+fn read_number(s: &[u8], place: usize) -> Number
+    requires { ⌜ (place < length (layout current)) × (length (now s) ≡ storedLength current) ⌝ }
+    ensures { λ n. ⌜ n ≡ numberRead (getD (layout current) place noSlot) (now (s .entry)) ⌝ }
+{
+    let slot = slot_at(VERSION, place);
+    let at = slot.at;
+    let end = at + slot.width;
+    let n = number_in(&s[at..end]);
+    if !base::is_between(slot.low, slot.high, n) {
+        return Number::Outside;
+    }
+    Number::Inside(n)
 }
 
 fn phase_of(n: u32) -> Phase
@@ -294,40 +355,6 @@ fn phase_of(n: u32) -> Phase
         3 => Phase::Stopped,
         _ => Phase::Done,
     }
-}
-
-// The record that the numbers behind the header are, whether they lie in their slots or not.
-fn record_of(s: &[u8]) -> Record
-    requires { ⌜ 14 + 5 * parameterCount ≤ length (now s) ⌝ }
-    ensures { λ r. ⌜ r ≡ recordOf (unpack (layout current) (now (s .entry))) ⌝ }
-{
-    let flags = s[3];
-    let values = [0u32; PARAMETERS];
-    let levels = [0u8; PARAMETERS];
-    let mut r = Record {
-        address: s[0],
-        access: s[1],
-        phase: phase_of(wide(s[2])),
-        keypad: flags / 1 % 2 == 1,
-        flow: flags / 2 % 2 == 1,
-        changed: flags / 4 % 2 == 1,
-        reset: flags / 8 % 2 == 1,
-        powerfail: flags / 16 % 2 == 1,
-        recipe: s[4],
-        preset: wide(s[5]) * 65536 + two(s, 6),
-        raw: four(s, 8),
-        number: two(s, 12) as u16,
-        values: values,
-        levels: levels,
-    };
-    let mut i = 0;
-    while i < PARAMETERS {
-        let at = SCALAR_BYTES + 5 * i;
-        r.values[i] = four(s, at);
-        r.levels[i] = s[at + 4];
-        i += 1;
-    }
-    r
 }
 
 // The record with every field at its low end.
@@ -369,47 +396,81 @@ fn refused(refusal: Refusal) -> Reading
     }
 }
 
-// Reads the number at a place of one-byte numbers, which must lie within its slot.
-fn read_number(s: &[u8], k: usize) -> Number
-    requires { ⌜ (k + 1 ≤ 5) × (5 ≤ length (now s)) ⌝ }
-    ensures { λ n. ⌜ n ≡ numberRead (getD (layout current) k noSlot) (getD (now (s .entry)) k 0) ⌝ }
+// Reads the parameters' numbers into a record.
+fn read_parameters(s: &[u8], before: Record) -> Reading
+    requires { ⌜ length (now s) ≡ storedLength current ⌝ }
+    ensures { λ r. ⌜ (answerAs (r .answer), r .record) ≡ takenFrom parametersAt (parameterItems parameterCount) (now (s .entry)) before ⌝ }
 {
-    let n = wide(s[k]);
-    let slot = scalar_slot(k);
-    if !base::is_between(slot.low, slot.high, n) {
-        return Number::Outside;
-    }
-    Number::Inside(n)
-}
-
-// The record behind the header, whose phase and flags lie in their slots: any other number beyond its slot makes it one that is
-// not valid.
-fn read_record(s: &[u8]) -> Reading
-    requires { ⌜ (length (now s) ≡ totalWidth (layout current)) × ((getD (now s) 2 0 ≤ 4) × (getD (now s) 3 0 ≤ 31)) ⌝ }
-    ensures { λ r. ⌜ (answerAs (r .answer), r .record) ≡ bodyOf (now (s .entry)) ⌝ }
-{
-    let record = record_of(s);
-    if !record.valid() {
-        return refused(Refusal::Field);
+    let mut filled = before;
+    let mut i = 0;
+    while i < PARAMETERS {
+        let Number::Inside(value) = read_number(s, SCALARS + 2 * i) else {
+            return refused(Refusal::Field);
+        };
+        let Number::Inside(level) = read_number(s, SCALARS + 2 * i + 1) else {
+            return refused(Refusal::Field);
+        };
+        filled.values[i] = value;
+        filled.levels[i] = level as u8;
+        i += 1;
     }
     Reading {
         answer: Answer::Whole,
-        record: record,
+        record: filled,
     }
 }
 
-// Reads the numbers behind the header. A phase or flags beyond their slots would not show in the record, so they are read first.
+// Reads the numbers behind the header, one after the other.
 fn read_numbers(s: &[u8]) -> Reading
-    requires { ⌜ length (now s) ≡ totalWidth (layout current) ⌝ }
+    requires { ⌜ length (now s) ≡ storedLength current ⌝ }
     ensures { λ r. ⌜ (answerAs (r .answer), r .record) ≡ bodyOf (now (s .entry)) ⌝ }
 {
-    let Number::Inside(_) = read_number(s, 2) else {
+    let Number::Inside(address) = read_number(s, ADDRESS) else {
         return refused(Refusal::Field);
     };
-    let Number::Inside(_) = read_number(s, 3) else {
+    let Number::Inside(access) = read_number(s, ACCESS) else {
         return refused(Refusal::Field);
     };
-    read_record(s)
+    let Number::Inside(phase) = read_number(s, PHASE) else {
+        return refused(Refusal::Field);
+    };
+    let Number::Inside(flags) = read_number(s, FLAGS) else {
+        return refused(Refusal::Field);
+    };
+    let Number::Inside(recipe) = read_number(s, RECIPE) else {
+        return refused(Refusal::Field);
+    };
+    let Number::Inside(preset) = read_number(s, PRESET) else {
+        return refused(Refusal::Field);
+    };
+    let Number::Inside(raw) = read_number(s, RAW) else {
+        return refused(Refusal::Field);
+    };
+    let Number::Inside(number) = read_number(s, NUMBER) else {
+        return refused(Refusal::Field);
+    };
+    let low = low_record();
+    let values = low.values;
+    let levels = low.levels;
+    read_parameters(
+        s,
+        Record {
+            address: address as u8,
+            access: access as u8,
+            phase: phase_of(phase),
+            keypad: flags % 2 == 1,
+            flow: flags / 2 % 2 == 1,
+            changed: flags / 4 % 2 == 1,
+            reset: flags / 8 % 2 == 1,
+            powerfail: flags / 16 % 2 == 1,
+            recipe: recipe as u8,
+            preset: preset,
+            raw: raw,
+            number: number as u16,
+            values: values,
+            levels: levels,
+        },
+    )
 }
 
 // Reads a stored record. Beside a refusal stands the record with every field at its low end.
@@ -417,7 +478,7 @@ pub fn read(s: &[u8]) -> Reading
     ensures { λ r. ⌜ (answerAs (r .answer), r .record) ≡ readOf (now (s .entry)) ⌝ }
 {
     let Header::Refused(refusal) = read_header(s) else {
-        return read_numbers(&s[HEADER..]);
+        return read_numbers(s);
     };
     refused(refusal)
 }

@@ -1,23 +1,25 @@
--- `low_record` gives the record of the low ends. The invariant: the first i low ends are copied. Assumes nothing.
-use Prim.Native.Nat.{_-_}
+-- `stored::low_record` meets its contract. The invariant: the first i low ends are in their places. Assumes nothing.
+use Prim.Native.Nat.{_-_, _≤_}
 use mathlib.Core.Path.{_≡_}
-use lib.ListN.{drop}
+use native.Mathlib.Omega.{arith}
+use Rattle.base.specs.Lists.{over}
 use Rattle.state.specs.Parameter.{parameterCount}
-use Rattle.stored.specs.Layout.{evens}
-use Rattle.stored.proofs.ListLaws.{copied, copied-none, copied-more, copied-all}
-use Rattle.stored.proofs.Numbers.{lows, lows-length, low-value, low-is, values-length}
+use Rattle.stored.proofs.LowRecord.{lows, low-none, low-more, low-is}
 use borrow.Author.Needs.{needs}
 use Rattle.stored.proofs.low_record.Statement.{statement}
 use Rattle.stored.proofs.low_record.Tie as tie
+use Rattle.stored.proofs.low_record.Reads as reads
+use Rattle.stored.proofs.low_record.Lts as lts
+use Rattle.state.proofs.range_at.Reads as range-at-reads
 
 abbrev Inv-loop : tie.InvT-loop
-Inv-loop values₀ i₀ values i = values ≡ copied (evens (drop 8 lows)) i values₀
+Inv-loop values₀ i₀ values i = (i ≤ parameterCount) × (values ≡ over (lows i) values₀)
 
 abbrev μ-loop : tie.MeasureT-loop
 μ-loop values₀ i₀ values i = parameterCount - i
 
 loop-holds : tie.Need-loop-holds Inv-loop μ-loop
-loop-holds c = copied-none _ _
+loop-holds c = (omega arith, low-none _)
 
 range-at-requires : tie.Need-range-at-requires Inv-loop μ-loop
 range-at-requires c κs = search needs
@@ -35,10 +37,10 @@ loop-less : tie.Need-loop-less Inv-loop μ-loop
 loop-less c = search needs
 
 loop-again : tie.Need-loop-again Inv-loop μ-loop
-loop-again c = search (copied-more, values-length, lows-length, low-value, needs)
+loop-again c = (omega arith, search (low-more, needs))
 
 returns : tie.Need-returns Inv-loop μ-loop
-returns c = search (low-is, copied-all, values-length, lows-length, needs)
+returns c = search (low-is, needs)
 
 pub low-record-spec : {M : Type 1} → statement M
 low-record-spec =

@@ -1,47 +1,60 @@
--- `put_parameters` stores the parameters' numbers. The invariant: those of the first i parameters are stored. Assumes nothing.
+-- `stored::put_parameters` meets its contract. The invariant: the first i parameters' numbers are stored. Assumes nothing.
 use Prim.Native.Nat.{_-_, _≤_}
+use mathlib.Core.Path.{_≡_, refl}
 use native.Mathlib.Omega.{arith}
+use lib.ListN.{length}
 use Rattle.state.specs.Parameter.{parameterCount}
-use Rattle.stored.proofs.Numbers.{Laid, laid-none, laid-more, laid-all}
+use Rattle.stored.proofs.Writing.{Parameters, parameters-none, parameters-more, parameters-all}
+use Rattle.stored.proofs.Slots.{layout-length}
 use borrow.Author.Needs.{needs}
 use Rattle.stored.proofs.put_parameters.Statement.{statement}
 use Rattle.stored.proofs.put_parameters.Tie as tie
+use Rattle.stored.proofs.put_parameters.Reads as reads
+use Rattle.stored.proofs.put_parameters.Lts as lts
+use Rattle.base.proofs.wide.Reads as wide-reads
+use Rattle.stored.proofs.put_number.Reads as put-number-reads
 
 abbrev Inv-loop : tie.InvT-loop
-Inv-loop out₀ r i₀ out i = (i ≤ parameterCount) × Laid r out₀ out i
+Inv-loop out₀ r i₀ out i = (i ≤ parameterCount) × ((length out ≡ length out₀) × Parameters r i out₀ out)
 
 abbrev μ-loop : tie.MeasureT-loop
 μ-loop out₀ r i₀ out i = parameterCount - i
 
 loop-holds : tie.Need-loop-holds Inv-loop μ-loop
-loop-holds c = (omega arith, laid-none _ _)
+loop-holds c = (omega arith, (refl, search parameters-none))
 
-add-at : tie.Need-add-at Inv-loop μ-loop
-add-at c = search needs
+mul-put-number : tie.Need-mul-put-number Inv-loop μ-loop
+mul-put-number c = search needs
 
-mul-at : tie.Need-mul-at Inv-loop μ-loop
-mul-at c = search needs
+element-copy-out-put-number : tie.Need-element-copy-out-put-number Inv-loop μ-loop
+element-copy-out-put-number c = search needs
 
-add-at-2 : tie.Need-add-at-2 Inv-loop μ-loop
-add-at-2 c = search needs
+mul-put-number-2 : tie.Need-mul-put-number-2 Inv-loop μ-loop
+mul-put-number-2 c = search needs
 
-mul-put-four : tie.Need-mul-put-four Inv-loop μ-loop
-mul-put-four c = search needs
+add-put-number : tie.Need-add-put-number Inv-loop μ-loop
+add-put-number c = search needs
 
-element-copy-out-put-four : tie.Need-element-copy-out-put-four Inv-loop μ-loop
-element-copy-out-put-four c = search needs
+put-number-requires : tie.Need-put-number-requires Inv-loop μ-loop
+put-number-requires c κs = (omega (arith, layout-length), omega arith)
 
-put-four-requires : tie.Need-put-four-requires Inv-loop μ-loop
-put-four-requires c κs = search needs
+element-copy-out-wide : tie.Need-element-copy-out-wide Inv-loop μ-loop
+element-copy-out-wide c = search needs
 
-element-copy-out-out : tie.Need-element-copy-out-out Inv-loop μ-loop
-element-copy-out-out c = search needs
+wide-requires : tie.Need-wide-requires Inv-loop μ-loop
+wide-requires c κs = search needs
 
-add-out : tie.Need-add-out Inv-loop μ-loop
-add-out c = search needs
+mul-put-number-3 : tie.Need-mul-put-number-3 Inv-loop μ-loop
+mul-put-number-3 c = search needs
 
-slice-write-out : tie.Need-slice-write-out Inv-loop μ-loop
-slice-write-out c = search needs
+add-put-number-2 : tie.Need-add-put-number-2 Inv-loop μ-loop
+add-put-number-2 c = search needs
+
+add-put-number-3 : tie.Need-add-put-number-3 Inv-loop μ-loop
+add-put-number-3 c = search needs
+
+put-number-requires-2 : tie.Need-put-number-requires-2 Inv-loop μ-loop
+put-number-requires-2 c κs = (omega (arith, layout-length), omega arith)
 
 add-i : tie.Need-add-i Inv-loop μ-loop
 add-i c = search needs
@@ -50,13 +63,13 @@ loop-less : tie.Need-loop-less Inv-loop μ-loop
 loop-less c = search needs
 
 loop-again : tie.Need-loop-again Inv-loop μ-loop
-loop-again c = (omega arith, search laid-more)
+loop-again c = (omega arith, (omega arith, parameters-more _ _ _ _ _ _ _ _ (c .before .before .before .before .before .before .before .before .before .before .before .loop-test .taken) (c .before .before .before .before .before .before .before .before .before .before .before .before .loop .inv .1 .1) refl (c .before .before .before .before .before .before .before .before .put-number .ensures .1) (c .before .before .before .before .wide .ensures .0) (c .before .before .put-number2 .ensures .1)))
 
 same-length : tie.Need-same-length Inv-loop μ-loop
-same-length c = c .before .loop .inv .1 .same
+same-length c = search needs
 
 returns : tie.Need-returns Inv-loop μ-loop
-returns c = search (laid-all, needs)
+returns c = search parameters-all
 
 pub put-parameters-spec : {M : Type 1} → statement M
 put-parameters-spec =
@@ -65,15 +78,17 @@ put-parameters-spec =
     Inv-loop
     μ-loop
     loop-holds
-    add-at
-    mul-at
-    add-at-2
-    mul-put-four
-    element-copy-out-put-four
-    put-four-requires
-    element-copy-out-out
-    add-out
-    slice-write-out
+    mul-put-number
+    element-copy-out-put-number
+    mul-put-number-2
+    add-put-number
+    put-number-requires
+    element-copy-out-wide
+    wide-requires
+    mul-put-number-3
+    add-put-number-2
+    add-put-number-3
+    put-number-requires-2
     add-i
     loop-less
     loop-again

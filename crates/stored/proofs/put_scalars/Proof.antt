@@ -1,72 +1,59 @@
--- `put_scalars` stores the first eight numbers one behind the other. Assumes nothing.
+-- `stored::put_scalars` meets its contract. The invariant: the numbers at the first places are stored. Assumes nothing.
+use Prim.Native.Nat.{_-_, _≤_}
+use mathlib.Core.Path.{_≡_, refl}
 use native.Mathlib.Omega.{arith}
-use lib.ListN.{length-set}
-use Rattle.stored.proofs.Records.{raw-room, number-room, scalars-same, scalars-put}
+use lib.ListN.{length}
+use Rattle.stored.proofs.Writing.{Scalars, scalars-none, scalars-more, scalars-all}
+use Rattle.stored.proofs.Slots.{layout-length}
 use borrow.Author.Needs.{needs}
 use Rattle.stored.proofs.put_scalars.Statement.{statement}
 use Rattle.stored.proofs.put_scalars.Tie as tie
+use Rattle.stored.proofs.put_scalars.Reads as reads
+use Rattle.stored.proofs.put_scalars.Lts as lts
+use Rattle.stored.proofs.put_number.Reads as put-number-reads
+use Rattle.stored.proofs.scalar.Reads as scalar-reads
 
-slice-write-out : tie.Need-slice-write-out
-slice-write-out c = search needs
+abbrev Inv-loop : tie.InvT-loop
+Inv-loop r out₀ place₀ out place = (place ≤ 8) × ((length out ≡ length out₀) × Scalars r place out₀ out)
 
-slice-write-out-2 : tie.Need-slice-write-out-2
-slice-write-out-2 c = simp length-set (omega arith)
+abbrev μ-loop : tie.MeasureT-loop
+μ-loop r out₀ place₀ out place = 8 - place
 
-phase-number-requires : tie.Need-phase-number-requires
-phase-number-requires c κs = search needs
+loop-holds : tie.Need-loop-holds Inv-loop μ-loop
+loop-holds c = (omega arith, (refl, search scalars-none))
 
-slice-write-out-3 : tie.Need-slice-write-out-3
-slice-write-out-3 c = simp length-set (omega arith)
+scalar-requires : tie.Need-scalar-requires Inv-loop μ-loop
+scalar-requires c κs = search needs
 
-flags-requires : tie.Need-flags-requires
-flags-requires c κs = search needs
+put-number-requires : tie.Need-put-number-requires Inv-loop μ-loop
+put-number-requires c κs = (omega (arith, layout-length), omega arith)
 
-slice-write-out-4 : tie.Need-slice-write-out-4
-slice-write-out-4 c = simp length-set (omega arith)
+add-place : tie.Need-add-place Inv-loop μ-loop
+add-place c = search needs
 
-slice-write-out-5 : tie.Need-slice-write-out-5
-slice-write-out-5 c = simp length-set (omega arith)
+loop-less : tie.Need-loop-less Inv-loop μ-loop
+loop-less c = search needs
 
-cast-out : tie.Need-cast-out
-cast-out c = search needs
+loop-again : tie.Need-loop-again Inv-loop μ-loop
+loop-again c = (omega arith, (omega arith, search scalars-more))
 
-slice-write-out-6 : tie.Need-slice-write-out-6
-slice-write-out-6 c = simp length-set (omega arith)
+same-length : tie.Need-same-length Inv-loop μ-loop
+same-length c = search needs
 
-put-two-requires : tie.Need-put-two-requires
-put-two-requires c κs = simp length-set (omega arith)
-
-put-four-requires : tie.Need-put-four-requires
-put-four-requires c κs = search raw-room
-
-cast-put-two : tie.Need-cast-put-two
-cast-put-two c = search needs
-
-put-two-requires-2 : tie.Need-put-two-requires-2
-put-two-requires-2 c κs = search number-room
-
-same-length : tie.Need-same-length
-same-length c = search scalars-same
-
-returns : tie.Need-returns
-returns c = search scalars-put
+returns : tie.Need-returns Inv-loop μ-loop
+returns c = search scalars-all
 
 pub put-scalars-spec : {M : Type 1} → statement M
 put-scalars-spec =
     tie.close
     (tie.spec
-    slice-write-out
-    slice-write-out-2
-    phase-number-requires
-    slice-write-out-3
-    flags-requires
-    slice-write-out-4
-    slice-write-out-5
-    cast-out
-    slice-write-out-6
-    put-two-requires
-    put-four-requires
-    cast-put-two
-    put-two-requires-2
+    Inv-loop
+    μ-loop
+    loop-holds
+    scalar-requires
+    put-number-requires
+    add-place
+    loop-less
+    loop-again
     same-length
     returns)

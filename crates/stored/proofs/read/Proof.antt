@@ -1,8 +1,13 @@
--- `read` gives the record of whole bytes, and else the refusal and the low record. Assumes nothing.
-use Rattle.stored.proofs.Answers.{good-room, good-rest, read-good, read-refused}
+-- `stored::read` meets its contract: what the header answers, and behind a good one the numbers. Assumes nothing.
+use Rattle.stored.proofs.Taking.{read-refused, good-length, read-good}
 use borrow.Author.Needs.{needs}
 use Rattle.stored.proofs.read.Statement.{statement}
 use Rattle.stored.proofs.read.Tie as tie
+use Rattle.stored.proofs.read.Reads as reads
+use Rattle.stored.proofs.read.Lts as lts
+use Rattle.stored.proofs.read_header.Reads as read-header-reads
+use Rattle.stored.proofs.read_numbers.Reads as read-numbers-reads
+use Rattle.stored.proofs.refused.Reads as refused-reads
 
 read-header-requires : tie.Need-read-header-requires
 read-header-requires c κs = search needs
@@ -13,17 +18,8 @@ enum-known-refusal c = search needs
 enum-told : tie.Need-enum-told
 enum-told c = search needs
 
-sub-read-numbers : tie.Need-sub-read-numbers
-sub-read-numbers c = search good-room
-
-part-read-numbers-start : tie.Need-part-read-numbers-start
-part-read-numbers-start c = search good-room
-
-part-read-numbers-end : tie.Need-part-read-numbers-end
-part-read-numbers-end c = search needs
-
 read-numbers-requires : tie.Need-read-numbers-requires
-read-numbers-requires c κs = search good-rest
+read-numbers-requires c κs = search good-length
 
 returns : tie.Need-returns
 returns c = search read-good
@@ -41,9 +37,6 @@ read-spec =
     read-header-requires
     enum-known-refusal
     enum-told
-    sub-read-numbers
-    part-read-numbers-start
-    part-read-numbers-end
     read-numbers-requires
     returns
     refused-requires

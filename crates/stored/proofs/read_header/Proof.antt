@@ -1,8 +1,11 @@
--- `read_header` answers as the header is, test by test in the order of the numbers. Assumes nothing.
-use Rattle.stored.proofs.Answers.{heading}
+-- `stored::read_header` meets its contract: a law for each return. Assumes nothing.
+use Rattle.stored.proofs.Taking.{heading}
 use borrow.Author.Needs.{needs}
 use Rattle.stored.proofs.read_header.Statement.{statement}
 use Rattle.stored.proofs.read_header.Tie as tie
+use Rattle.stored.proofs.read_header.Reads as reads
+use Rattle.stored.proofs.read_header.Lts as lts
+use Rattle.stored.proofs.number_in.Reads as number-in-reads
 
 returns : tie.Need-returns
 returns c = search heading
@@ -13,8 +16,17 @@ shared-slice-read-if2 c = search needs
 returns-2 : tie.Need-returns-2
 returns-2 c = search heading
 
-two-requires : tie.Need-two-requires
-two-requires c κs = search needs
+sub-number-in : tie.Need-sub-number-in
+sub-number-in c = search needs
+
+part-number-in-start : tie.Need-part-number-in-start
+part-number-in-start c = search needs
+
+part-number-in-end : tie.Need-part-number-in-end
+part-number-in-end c = search needs
+
+number-in-requires : tie.Need-number-in-requires
+number-in-requires c κs = search needs
 
 cast-if3 : tie.Need-cast-if3
 cast-if3 c = search needs
@@ -28,4 +40,14 @@ returns-4 c = search heading
 pub read-header-spec : {M : Type 1} → statement M
 read-header-spec =
     tie.close
-    (tie.spec returns shared-slice-read-if2 returns-2 two-requires cast-if3 returns-3 returns-4)
+    (tie.spec
+    returns
+    shared-slice-read-if2
+    returns-2
+    sub-number-in
+    part-number-in-start
+    part-number-in-end
+    number-in-requires
+    cast-if3
+    returns-3
+    returns-4)

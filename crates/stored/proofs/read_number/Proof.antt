@@ -1,17 +1,32 @@
--- `read_number` answers by the slot of the number's place. Assumes nothing.
-use Rattle.stored.proofs.Records.{read-outside, read-inside}
+-- `stored::read_number` meets its contract: the slot lies in the bytes, and the number in it is tested against its range. Assumes nothing.
+use native.Mathlib.Omega.{arith}
+use Rattle.stored.proofs.Taking.{slot-inside, slot-fits, slot-four, read-outside, read-inside}
 use borrow.Author.Needs.{needs}
 use Rattle.stored.proofs.read_number.Statement.{statement}
 use Rattle.stored.proofs.read_number.Tie as tie
+use Rattle.stored.proofs.read_number.Reads as reads
+use Rattle.stored.proofs.read_number.Lts as lts
+use Rattle.base.proofs.is_between.Reads as is-between-reads
+use Rattle.stored.proofs.number_in.Reads as number-in-reads
+use Rattle.stored.proofs.slot_at.Reads as slot-at-reads
 
-shared-slice-read-wide : tie.Need-shared-slice-read-wide
-shared-slice-read-wide c = search needs
+slot-at-requires : tie.Need-slot-at-requires
+slot-at-requires c κs = search needs
 
-wide-requires : tie.Need-wide-requires
-wide-requires c κs = search needs
+add-end : tie.Need-add-end
+add-end c = search (slot-fits, needs)
 
-scalar-slot-requires : tie.Need-scalar-slot-requires
-scalar-slot-requires c κs = search needs
+sub-number-in : tie.Need-sub-number-in
+sub-number-in c = search needs
+
+part-number-in-start : tie.Need-part-number-in-start
+part-number-in-start c = search needs
+
+part-number-in-end : tie.Need-part-number-in-end
+part-number-in-end c = search (slot-inside, needs)
+
+number-in-requires : tie.Need-number-in-requires
+number-in-requires c κs = search slot-four
 
 is-between-requires : tie.Need-is-between-requires
 is-between-requires c κs = search needs
@@ -26,9 +41,12 @@ pub read-number-spec : {M : Type 1} → statement M
 read-number-spec =
     tie.close
     (tie.spec
-    shared-slice-read-wide
-    wide-requires
-    scalar-slot-requires
+    slot-at-requires
+    add-end
+    sub-number-in
+    part-number-in-start
+    part-number-in-end
+    number-in-requires
     is-between-requires
     returns
     returns-2)

@@ -1,59 +1,245 @@
--- `read_numbers` refuses a phase or flags outside of their slots, and leaves the rest to `read_record`. Assumes nothing.
+-- `stored::read_numbers` meets its contract: a number outside of its slot refuses all; else each goes into its field. Assumes nothing.
+use mathlib.Core.Path.{refl}
 use native.Mathlib.Omega.{arith}
-use Rattle.stored.proofs.Records.{byte-room, body-phase, body-flags, phase-inside, flags-inside}
+use Rattle.stored.proofs.Taking.{body-outside, is-byte, is-two-bytes, body-inside}
+use Rattle.stored.proofs.Slots.{layout-length}
 use borrow.Author.Needs.{needs}
 use Rattle.stored.proofs.read_numbers.Statement.{statement}
 use Rattle.stored.proofs.read_numbers.Tie as tie
+use Rattle.stored.proofs.read_numbers.Reads as reads
+use Rattle.stored.proofs.read_numbers.Lts as lts
+use Rattle.stored.proofs.low_record.Reads as low-record-reads
+use Rattle.stored.proofs.phase_of.Reads as phase-of-reads
+use Rattle.stored.proofs.read_number.Reads as read-number-reads
+use Rattle.stored.proofs.read_parameters.Reads as read-parameters-reads
+use Rattle.stored.proofs.refused.Reads as refused-reads
 
 read-number-requires : tie.Need-read-number-requires
-read-number-requires c κs = (omega arith, search byte-room)
+read-number-requires c κs = (omega (arith, layout-length), search needs)
+
+enum-known-address : tie.Need-enum-known-address
+enum-known-address c = search needs
 
 enum-told : tie.Need-enum-told
 enum-told c = search needs
-
-enum-told-2 : tie.Need-enum-told-2
-enum-told-2 c = search needs
 
 refused-requires : tie.Need-refused-requires
 refused-requires c κs = search needs
 
 returns : tie.Need-returns
-returns c = search body-phase
+returns c = search (body-outside, needs)
 
 read-number-requires-2 : tie.Need-read-number-requires-2
-read-number-requires-2 c κs = (omega arith, search byte-room)
+read-number-requires-2 c κs = (omega (arith, layout-length), search needs)
 
-enum-told-3 : tie.Need-enum-told-3
-enum-told-3 c = search needs
+enum-known-access : tie.Need-enum-known-access
+enum-known-access c = search needs
 
-enum-told-4 : tie.Need-enum-told-4
-enum-told-4 c = search needs
+enum-told-2 : tie.Need-enum-told-2
+enum-told-2 c = search needs
 
 refused-requires-2 : tie.Need-refused-requires-2
 refused-requires-2 c κs = search needs
 
 returns-2 : tie.Need-returns-2
-returns-2 c = search body-flags
+returns-2 c = search (body-outside, needs)
 
-read-record-requires : tie.Need-read-record-requires
-read-record-requires c κs = (search needs, (search phase-inside, search flags-inside))
+read-number-requires-3 : tie.Need-read-number-requires-3
+read-number-requires-3 c κs = (omega (arith, layout-length), search needs)
+
+enum-known-phase : tie.Need-enum-known-phase
+enum-known-phase c = search needs
+
+enum-told-3 : tie.Need-enum-told-3
+enum-told-3 c = search needs
+
+refused-requires-3 : tie.Need-refused-requires-3
+refused-requires-3 c κs = search needs
 
 returns-3 : tie.Need-returns-3
-returns-3 c = search needs
+returns-3 c = search (body-outside, needs)
+
+read-number-requires-4 : tie.Need-read-number-requires-4
+read-number-requires-4 c κs = (omega (arith, layout-length), search needs)
+
+enum-known-flags : tie.Need-enum-known-flags
+enum-known-flags c = search needs
+
+enum-told-4 : tie.Need-enum-told-4
+enum-told-4 c = search needs
+
+refused-requires-4 : tie.Need-refused-requires-4
+refused-requires-4 c κs = search needs
+
+returns-4 : tie.Need-returns-4
+returns-4 c = search (body-outside, needs)
+
+read-number-requires-5 : tie.Need-read-number-requires-5
+read-number-requires-5 c κs = (omega (arith, layout-length), search needs)
+
+enum-known-recipe : tie.Need-enum-known-recipe
+enum-known-recipe c = search needs
+
+enum-told-5 : tie.Need-enum-told-5
+enum-told-5 c = search needs
+
+refused-requires-5 : tie.Need-refused-requires-5
+refused-requires-5 c κs = search needs
+
+returns-5 : tie.Need-returns-5
+returns-5 c = search (body-outside, needs)
+
+read-number-requires-6 : tie.Need-read-number-requires-6
+read-number-requires-6 c κs = (omega (arith, layout-length), search needs)
+
+enum-known-preset : tie.Need-enum-known-preset
+enum-known-preset c = search needs
+
+enum-told-6 : tie.Need-enum-told-6
+enum-told-6 c = search needs
+
+refused-requires-6 : tie.Need-refused-requires-6
+refused-requires-6 c κs = search needs
+
+returns-6 : tie.Need-returns-6
+returns-6 c = search (body-outside, needs)
+
+read-number-requires-7 : tie.Need-read-number-requires-7
+read-number-requires-7 c κs = (omega (arith, layout-length), search needs)
+
+enum-known-raw : tie.Need-enum-known-raw
+enum-known-raw c = search needs
+
+enum-told-7 : tie.Need-enum-told-7
+enum-told-7 c = search needs
+
+refused-requires-7 : tie.Need-refused-requires-7
+refused-requires-7 c κs = search needs
+
+returns-7 : tie.Need-returns-7
+returns-7 c = search (body-outside, needs)
+
+read-number-requires-8 : tie.Need-read-number-requires-8
+read-number-requires-8 c κs = (omega (arith, layout-length), c .before .before .before .before .before .before .before .before .before .before .before .before .before .before .before .before .before .before .before .before .before .before .before .before .before .before .before .before .before .pre)
+
+enum-known-number : tie.Need-enum-known-number
+enum-known-number c = search needs
+
+enum-told-8 : tie.Need-enum-told-8
+enum-told-8 c = search needs
+
+refused-requires-8 : tie.Need-refused-requires-8
+refused-requires-8 c κs = search needs
+
+returns-8 : tie.Need-returns-8
+returns-8 c = search (body-outside, needs)
+
+low-record-requires : tie.Need-low-record-requires
+low-record-requires c κs = search needs
+
+cast-t29 : tie.Need-cast-t29
+cast-t29 c =
+    let at₇ = c .before .before .before in
+    let at₆ = at₇ .before .before .before .before in
+    let at₅ = at₆ .before .before .before .before in
+    let at₄ = at₅ .before .before .before .before in
+    let at₃ = at₄ .before .before .before .before in
+    let at₂ = at₃ .before .before .before .before in
+    let at₁ = at₂ .before .before .before .before in
+    let at₀ = at₁ .before .before .before .before in
+    omega (arith, is-byte _ 0 _ _ (at₀ .before .before .before .read-number .ensures) (at₀ .before .address .given .1) (omega arith))
+
+cast-t30 : tie.Need-cast-t30
+cast-t30 c =
+    let at₇ = c .before .before .before in
+    let at₆ = at₇ .before .before .before .before in
+    let at₅ = at₆ .before .before .before .before in
+    let at₄ = at₅ .before .before .before .before in
+    let at₃ = at₄ .before .before .before .before in
+    let at₂ = at₃ .before .before .before .before in
+    let at₁ = at₂ .before .before .before .before in
+    omega (arith, is-byte _ 1 _ _ (at₁ .before .before .before .read-number2 .ensures) (at₁ .before .access .given .1) (omega arith))
+
+phase-of-requires : tie.Need-phase-of-requires
+phase-of-requires c κs = search needs
+
+cast-t46 : tie.Need-cast-t46
+cast-t46 c =
+    let at₇ = c .before .before .before .before in
+    let at₆ = at₇ .before .before .before .before in
+    let at₅ = at₆ .before .before .before .before in
+    let at₄ = at₅ .before .before .before .before in
+    omega (arith, is-byte _ 4 _ _ (at₄ .before .before .before .read-number5 .ensures) (at₄ .before .recipe .given .1) (omega arith))
+
+cast-t47 : tie.Need-cast-t47
+cast-t47 c =
+    let at₇ = c .before .before .before .before in
+    omega (arith, is-two-bytes _ 7 _ _ (at₇ .before .before .before .read-number8 .ensures) (at₇ .before .number .given .1) refl)
+
+read-parameters-requires : tie.Need-read-parameters-requires
+read-parameters-requires c κs = c .before .before .before .before .before .before .before .before .before .before .before .before .before .before .before .before .before .before .before .before .before .before .before .before .before .before .before .before .before .before .before .before .before .before .before .before .before .pre
+
+returns-9 : tie.Need-returns-9
+returns-9 c =
+    let at₇ = c .before .before .before .before .before in
+    let at₆ = at₇ .before .before .before .before in
+    let at₅ = at₆ .before .before .before .before in
+    let at₄ = at₅ .before .before .before .before in
+    let at₃ = at₄ .before .before .before .before in
+    let at₂ = at₃ .before .before .before .before in
+    let at₁ = at₂ .before .before .before .before in
+    let at₀ = at₁ .before .before .before .before in
+    body-inside _ _ _ _ _ _ _ _ _ _ _ _ _ _ _ _ _ (at₀ .before .before .before .read-number .ensures) (at₀ .before .address .given .1) (at₁ .before .before .before .read-number2 .ensures) (at₁ .before .access .given .1) (at₂ .before .before .before .read-number3 .ensures) (at₂ .before .phase .given .1) (at₃ .before .before .before .read-number4 .ensures) (at₃ .before .flags .given .1) (at₄ .before .before .before .read-number5 .ensures) (at₄ .before .recipe .given .1) (at₅ .before .before .before .read-number6 .ensures) (at₅ .before .preset .given .1) (at₆ .before .before .before .read-number7 .ensures) (at₆ .before .raw .given .1) (at₇ .before .before .before .read-number8 .ensures) (at₇ .before .number .given .1) _ _ _ _ (c .before .phase-of .ensures) (c .before .before .before .before .low-record .ensures) (c .read-parameters .ensures)
 
 pub read-numbers-spec : {M : Type 1} → statement M
 read-numbers-spec =
     tie.close
     (tie.spec
     read-number-requires
+    enum-known-address
     enum-told
-    enum-told-2
     refused-requires
     returns
     read-number-requires-2
-    enum-told-3
-    enum-told-4
+    enum-known-access
+    enum-told-2
     refused-requires-2
     returns-2
-    read-record-requires
-    returns-3)
+    read-number-requires-3
+    enum-known-phase
+    enum-told-3
+    refused-requires-3
+    returns-3
+    read-number-requires-4
+    enum-known-flags
+    enum-told-4
+    refused-requires-4
+    returns-4
+    read-number-requires-5
+    enum-known-recipe
+    enum-told-5
+    refused-requires-5
+    returns-5
+    read-number-requires-6
+    enum-known-preset
+    enum-told-6
+    refused-requires-6
+    returns-6
+    read-number-requires-7
+    enum-known-raw
+    enum-told-7
+    refused-requires-7
+    returns-7
+    read-number-requires-8
+    enum-known-number
+    enum-told-8
+    refused-requires-8
+    returns-8
+    low-record-requires
+    cast-t29
+    cast-t30
+    phase-of-requires
+    cast-t46
+    cast-t47
+    read-parameters-requires
+    returns-9)

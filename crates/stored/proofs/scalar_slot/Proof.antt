@@ -1,30 +1,81 @@
--- `scalar_slot` gives the slot that stands in the layout: the three tables agree with its first eight. Assumes nothing.
-use Rattle.stored.proofs.Slots.{slot-in-tables}
+-- `stored::scalar_slot` meets its contract: each arm has the slot at its place. Assumes nothing.
+use Rattle.stored.proofs.Slots.{scalar-here, scalar-last}
 use borrow.Author.Needs.{needs}
 use Rattle.stored.proofs.scalar_slot.Statement.{statement}
 use Rattle.stored.proofs.scalar_slot.Tie as tie
+use Rattle.stored.proofs.scalar_slot.Reads as reads
+use Rattle.stored.proofs.scalar_slot.Lts as lts
+use Rattle.stored.proofs.slot_of.Reads as slot-of-reads
 
-mul-t3 : tie.Need-mul-t3
-mul-t3 c = search needs
+slot-of-requires : tie.Need-slot-of-requires
+slot-of-requires c κs = search needs
 
-array-read-t6 : tie.Need-array-read-t6
-array-read-t6 c = search needs
+slot-of-requires-2 : tie.Need-slot-of-requires-2
+slot-of-requires-2 c κs = search needs
 
-mul-t8 : tie.Need-mul-t8
-mul-t8 c = search needs
+slot-of-requires-3 : tie.Need-slot-of-requires-3
+slot-of-requires-3 c κs = search needs
 
-array-read-t11 : tie.Need-array-read-t11
-array-read-t11 c = search needs
+slot-of-requires-4 : tie.Need-slot-of-requires-4
+slot-of-requires-4 c κs = search needs
 
-mul-t13 : tie.Need-mul-t13
-mul-t13 c = search needs
+cast-slot-of : tie.Need-cast-slot-of
+cast-slot-of c = search needs
 
-array-read-t16 : tie.Need-array-read-t16
-array-read-t16 c = search needs
+slot-of-requires-5 : tie.Need-slot-of-requires-5
+slot-of-requires-5 c κs = search needs
+
+slot-of-requires-6 : tie.Need-slot-of-requires-6
+slot-of-requires-6 c κs = search needs
+
+slot-of-requires-7 : tie.Need-slot-of-requires-7
+slot-of-requires-7 c κs = search needs
+
+slot-of-requires-8 : tie.Need-slot-of-requires-8
+slot-of-requires-8 c κs = search needs
 
 returns : tie.Need-returns
-returns c = slot-in-tables _ (search needs)
+returns c = search (scalar-here 0, needs)
+
+returns-2 : tie.Need-returns-2
+returns-2 c = search (scalar-here 1, needs)
+
+returns-3 : tie.Need-returns-3
+returns-3 c = search (scalar-here 2, needs)
+
+returns-4 : tie.Need-returns-4
+returns-4 c = search (scalar-here 3, needs)
+
+returns-5 : tie.Need-returns-5
+returns-5 c = search (scalar-here 4, needs)
+
+returns-6 : tie.Need-returns-6
+returns-6 c = search (scalar-here 5, needs)
+
+returns-7 : tie.Need-returns-7
+returns-7 c = search (scalar-here 6, needs)
+
+returns-8 : tie.Need-returns-8
+returns-8 c = scalar-last (c .before .match .rest) (search needs) (search needs)
 
 pub scalar-slot-spec : {M : Type 1} → statement M
 scalar-slot-spec =
-    tie.close (tie.spec mul-t3 array-read-t6 mul-t8 array-read-t11 mul-t13 array-read-t16 returns)
+    tie.close
+    (tie.spec
+    slot-of-requires
+    slot-of-requires-2
+    slot-of-requires-3
+    slot-of-requires-4
+    cast-slot-of
+    slot-of-requires-5
+    slot-of-requires-6
+    slot-of-requires-7
+    slot-of-requires-8
+    returns
+    returns-2
+    returns-3
+    returns-4
+    returns-5
+    returns-6
+    returns-7
+    returns-8)

@@ -1,8 +1,14 @@
--- `slot_at` gives the slot of the layout: the first eight by the tables, then a value and a level for each parameter. Assumes nothing.
-use Rattle.stored.proofs.Slots.{slot-unknown, slot-current, slot-beyond, slot-level, slot-value}
+-- `stored::slot_at` meets its contract: the first eight slots, then a value's and a level's for each parameter. Assumes nothing.
+use Rattle.stored.proofs.Slots.{slot-unknown, slot-current, slot-beyond, level-there, value-there}
 use borrow.Author.Needs.{needs}
 use Rattle.stored.proofs.slot_at.Statement.{statement}
 use Rattle.stored.proofs.slot_at.Tie as tie
+use Rattle.stored.proofs.slot_at.Reads as reads
+use Rattle.stored.proofs.slot_at.Lts as lts
+use Rattle.stored.proofs.level_slot.Reads as level-slot-reads
+use Rattle.stored.proofs.nowhere.Reads as nowhere-reads
+use Rattle.stored.proofs.scalar_slot.Reads as scalar-slot-reads
+use Rattle.stored.proofs.value_slot.Reads as value-slot-reads
 
 nowhere-requires : tie.Need-nowhere-requires
 nowhere-requires c κs = search needs
@@ -22,14 +28,17 @@ nowhere-requires-2 c κs = search needs
 returns-3 : tie.Need-returns-3
 returns-3 c = search slot-beyond
 
-returns-4 : tie.Need-returns-4
-returns-4 c = search slot-level
+level-slot-requires : tie.Need-level-slot-requires
+level-slot-requires c κs = search needs
 
-range-at-requires : tie.Need-range-at-requires
-range-at-requires c κs = search needs
+returns-4 : tie.Need-returns-4
+returns-4 c = search level-there
+
+value-slot-requires : tie.Need-value-slot-requires
+value-slot-requires c κs = search needs
 
 returns-5 : tie.Need-returns-5
-returns-5 c = search slot-value
+returns-5 c = search value-there
 
 pub slot-at-spec : {M : Type 1} → statement M
 slot-at-spec =
@@ -41,6 +50,7 @@ slot-at-spec =
     returns-2
     nowhere-requires-2
     returns-3
+    level-slot-requires
     returns-4
-    range-at-requires
+    value-slot-requires
     returns-5)

@@ -1,5 +1,5 @@
 -- `stored_length` gives the length of each version, by the definition. Assumes nothing.
-use Rattle.stored.proofs.Answers.{length-known, length-unknown}
+use Rattle.stored.proofs.Slots.{length-known, length-unknown}
 use Rattle.stored.proofs.stored_length.Statement.{statement}
 use Rattle.stored.proofs.stored_length.Tie as tie
 

@@ -1,10 +1,16 @@
--- `write` answers and leaves the buffer as the definition says: the header, the scalars and the parameters are stored from its start on, or nothing is changed.
--- Assumes nothing.
-use Rattle.stored.proofs.Answers.{write-invalid, write-short}
-use Rattle.stored.proofs.Records.{valid-then, write-whole}
+-- `stored::write` meets its contract: the header, the numbers and the parameters' numbers one behind the other from the start on, or nothing. Assumes nothing.
+use native.Mathlib.Omega.{arith}
+use Rattle.stored.proofs.Writing.{write-invalid, write-short, write-whole}
+use Rattle.stored.proofs.Slots.{stored-177}
 use borrow.Author.Needs.{needs}
 use Rattle.stored.proofs.write.Statement.{statement}
 use Rattle.stored.proofs.write.Tie as tie
+use Rattle.stored.proofs.write.Reads as reads
+use Rattle.stored.proofs.write.Lts as lts
+use Rattle.state.proofs.Record.valid.Reads as valid-reads
+use Rattle.stored.proofs.put_header.Reads as put-header-reads
+use Rattle.stored.proofs.put_parameters.Reads as put-parameters-reads
+use Rattle.stored.proofs.put_scalars.Reads as put-scalars-reads
 
 valid-requires : tie.Need-valid-requires
 valid-requires c κs = search needs
@@ -19,10 +25,10 @@ put-header-requires : tie.Need-put-header-requires
 put-header-requires c κs = search needs
 
 put-scalars-requires : tie.Need-put-scalars-requires
-put-scalars-requires c κs = search (valid-then, needs)
+put-scalars-requires c κs = omega (arith, stored-177)
 
 put-parameters-requires : tie.Need-put-parameters-requires
-put-parameters-requires c κs = search (valid-then, needs)
+put-parameters-requires c κs = omega (arith, stored-177)
 
 same-length : tie.Need-same-length
 same-length c = search needs

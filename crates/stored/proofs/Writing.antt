@@ -1,0 +1,205 @@
+-- Numbers stored one behind the other, and what the returns of writing give. Assumes nothing.
+use Prim.Native.Nat.{ℕ, zero, suc, _+_, _-_, _*_, _%_, _≤_, _<_}
+use mathlib.Core.Bool.{Bool, true, false, not}
+use mathlib.Core.Path.{_≡_, refl, sym, ap, _∙_}
+use mathlib.Core.List.{List, [], _∷_, _++_, map, append-assoc, append-nil}
+use native.Mathlib.Nat.{not-suc-le-zero, le-of-suc-le-suc}
+use native.Mathlib.Numerals.{add-one}
+use native.Mathlib.Omega.{arith}
+use lib.ListN.{length, getD, take, drop, set, length-set, length-append, length-map, List·getD-append}
+use lib.Seq.{sets, length-sets}
+use borrow.Author.Tests.{le-leb, lt-leb, not-true, not-false}
+use borrow.Rule.Slice.PartMut.{putMid}
+use Rattle.base.specs.Test.{unless}
+use Rattle.base.specs.Lists.{over}
+use Rattle.state.specs.declared.Record.{Record}
+use Rattle.state.specs.Parameter.{parameterCount}
+use Rattle.state.specs.Field.{value, level, phaseNumber}
+use Rattle.state.specs.Valid.{valid}
+use Rattle.stored.specs.declared.Slot.{Slot}
+use Rattle.stored.specs.Layout.{Item, alone, together, scalarItems, parameterItems, current, items, headerWidth, itemWidth, totalWidth, parametersAt, itemSlot, slotsFrom, layout, noSlot, itemNumber, numbersOf, bits, flagFields}
+use Rattle.stored.specs.Form.{K, done, bigEndian, pack, packed, stored, storedLength, heading, storedForm, writeOf}
+use Rattle.stored.proofs.ListLaws.{map-append}
+use Rattle.stored.proofs.Bytes.{big-length, sets-append, sets-next, sets-over, part-filled}
+use Rattle.stored.proofs.Slots.{pair, parameters-width, slots-length, slot-ends, stored-177, before-parameters, value-slot, level-slot, Others, last-place}
+
+-- ---- the numbers of a list of items
+pub numbers-length : (xs : List Item) (r : Record) → length (numbersOf xs r) ≡ length xs
+unfolding numbersOf
+numbers-length xs r = length-map xs (itemNumber r)
+
+pub pack-length : (xs : List Item) (ns : List ℕ) → length ns ≡ length xs → length (pack xs ns) ≡ totalWidth xs
+unfolding pack
+pack-length [] ns e = refl
+pack-length (x ∷ xs) [] e = absurd (omega arith)
+pack-length (x ∷ xs) (n ∷ ns) e =
+    let h = pack-length xs ns (omega arith) in
+    let b = big-length (itemWidth x) n in
+    length-append (bigEndian (itemWidth x) n) (pack xs ns) ∙ omega arith
+
+pub pack-append : (xs ys : List Item) (ns ms : List ℕ) → length ns ≡ length xs → pack (xs ++ ys) (ns ++ ms) ≡ pack xs ns ++ pack ys ms
+unfolding pack
+pack-append [] ys [] ms e = refl
+pack-append [] ys (n ∷ ns) ms e = absurd (omega arith)
+pack-append (x ∷ xs) ys [] ms e = absurd (omega arith)
+pack-append (x ∷ xs) ys (n ∷ ns) ms e =
+    ap (λ (l : List ℕ). bigEndian (itemWidth x) n ++ l) (pack-append xs ys ns ms (omega arith)) ∙ sym (append-assoc (bigEndian (itemWidth x) n) (pack xs ns) (pack ys ms))
+
+pub packed-length : (xs : List Item) (r : Record) → length (packed xs r) ≡ totalWidth xs
+packed-length xs r = pack-length xs (numbersOf xs r) (numbers-length xs r)
+
+pub packed-append : (xs ys : List Item) (r : Record) → packed (xs ++ ys) r ≡ packed xs r ++ packed ys r
+unfolding numbersOf
+packed-append xs ys r =
+    ap (pack (xs ++ ys)) (map-append (itemNumber r) xs ys) ∙ pack-append xs ys (map (itemNumber r) xs) (map (itemNumber r) ys) (length-map xs (itemNumber r))
+
+-- ---- one number
+slot-stored : (at : ℕ) (x : Item) (n : ℕ) (o : List ℕ) → stored (itemSlot at x) n o ≡ sets o at (bigEndian (itemWidth x) n)
+slot-stored at (alone w f) n o = refl
+slot-stored at (together fs) n o = refl
+
+-- the number at a place, behind those before it
+store-next : (at : ℕ) (xs : List Item) (ns : List ℕ) (k : ℕ) (o z : List ℕ) → k < length xs → length ns ≡ length xs → z ≡ sets o at (pack (take k xs) (take k ns))
+    → stored (getD (slotsFrom at xs) k noSlot) (getD ns k 0) z ≡ sets o at (pack (take (suc k) xs) (take (suc k) ns))
+unfolding slotsFrom pack
+store-next at [] ns k o z h l e = absurd (not-suc-le-zero h)
+store-next at (x ∷ xs) [] k o z h l e = absurd (omega arith)
+store-next at (x ∷ xs) (n ∷ ns) zero o z h l e =
+    ap (stored (itemSlot at x) n) e ∙ (slot-stored at x n o ∙ ap (sets o at) (sym (append-nil (bigEndian (itemWidth x) n))))
+store-next at (x ∷ xs) (n ∷ ns) (suc k) o z h l e =
+    let w = big-length (itemWidth x) n in
+    let f : List ℕ = bigEndian (itemWidth x) n in
+    let back : (g : List ℕ) → sets (sets o at f) (at + itemWidth x) g ≡ sets o at (f ++ g) =
+    λ g. ap (λ (j : ℕ). sets (sets o at f) (at + j) g) (sym w) ∙ sets-append o at f g in
+    store-next (at + itemWidth x) xs ns k (sets o at f) z (le-of-suc-le-suc h) (omega arith) (e ∙ sym (back (pack (take k xs) (take k ns))))
+    ∙ back (pack (take (suc k) xs) (take (suc k) ns))
+
+module _ (s : Slot) (k n : ℕ) (o ys : List ℕ) (place : k < length (layout current)) (room : storedLength current ≤ length o) (e : s ≡ getD (layout current) k noSlot)
+    (filled : ys ≡ bigEndian (length (take (s .at + s .width - s .at) (drop (s .at) o))) n) where
+  put-is : putMid (s .at) (s .at + s .width - s .at) o ys ≡ stored (getD (layout current) k noSlot) n o
+  put-is =
+      let h = slot-ends e place in
+      part-filled (s .at) (s .width) n o ys (omega arith) filled ∙ ap (λ (t : Slot). stored t n o) e
+
+  pub number-put : (length (putMid (s .at) (s .at + s .width - s .at) o ys) ≡ length o) × (putMid (s .at) (s .at + s .width - s .at) o ys ≡ stored (getD (layout current) k noSlot) n o)
+  number-put =
+      let t : Slot = getD (layout current) k noSlot in (ap length put-is ∙ length-sets o (t .at) (bigEndian (t .width) n), put-is)
+
+-- ---- the numbers before the parameters'
+abbrev pub Scalars : Record → ℕ → List ℕ → List ℕ → Type 0
+Scalars r k o z = z ≡ sets o headerWidth (pack (take k scalarItems) (take k (numbersOf scalarItems r)))
+
+pub scalars-none : (r : Record) (o : List ℕ) → Scalars r 0 o o
+unfolding pack
+scalars-none r o = refl
+
+scalar-slot : (k : ℕ) → k < 8 → getD (layout current) k noSlot ≡ getD (slotsFrom headerWidth scalarItems) k noSlot
+unfolding slotsFrom
+scalar-slot k h =
+    ap (λ (ss : List Slot). getD ss k noSlot) before-parameters ∙
+    List·getD-append (slotsFrom headerWidth scalarItems) (slotsFrom parametersAt (parameterItems parameterCount)) noSlot k h
+
+pub scalars-more : (r : Record) (k n : ℕ) (o y z : List ℕ) → k < 8 → n ≡ getD (numbersOf scalarItems r) k 0 → Scalars r k o y
+    → z ≡ stored (getD (layout current) k noSlot) n y → Scalars r (k + 1) o z
+scalars-more r k n o y z h e q p =
+    p ∙ (ap (λ (m : ℕ). stored (getD (layout current) k noSlot) m y) e ∙
+    (ap (λ (s : Slot). stored s (getD (numbersOf scalarItems r) k 0) y) (scalar-slot k h) ∙
+    (store-next headerWidth scalarItems (numbersOf scalarItems r) k o y h (numbers-length scalarItems r) q ∙
+    ap (λ (j : ℕ). sets o headerWidth (pack (take j scalarItems) (take j (numbersOf scalarItems r)))) (sym (add-one k)))))
+
+pub scalars-all : (r : Record) (k : ℕ) (o z : List ℕ) → k ≤ 8 → 8 ≤ k → Scalars r k o z → z ≡ sets o headerWidth (packed scalarItems r)
+unfolding numbersOf
+scalars-all r k o z l h e =
+    let q : k ≡ 8 = omega arith in e ∙ ap (λ (j : ℕ). sets o headerWidth (pack (take j scalarItems) (take j (numbersOf scalarItems r)))) q
+
+-- ---- the parameters'
+abbrev pub Parameters : Record → ℕ → List ℕ → List ℕ → Type 0
+Parameters r i o z = z ≡ sets o parametersAt (packed (parameterItems i) r)
+
+pub parameters-none : (r : Record) (o : List ℕ) → Parameters r 0 o o
+unfolding pack numbersOf
+parameters-none r o = refl
+
+pub parameters-more : (r : Record) (i n m : ℕ) (o y x z : List ℕ) → i < parameterCount → Parameters r i o y
+    → n ≡ getD (r .values) i 0 → x ≡ stored (getD (layout current) (8 + 2 * i) noSlot) n y
+    → m ≡ getD (r .levels) i 0 → z ≡ stored (getD (layout current) (8 + 2 * i + 1) noSlot) m x → Parameters r (i + 1) o z
+unfolding pack numbersOf bigEndian
+parameters-more r i n m o y x z h q en ex em ez =
+    let v : ℕ = getD (r .values) i 0 in
+    let l : ℕ = getD (r .levels) i 0 in
+    let f : List ℕ = packed (parameterItems i) r in
+    let w : length f ≡ 5 * i = packed-length (parameterItems i) r ∙ parameters-width i in
+    let b : length (bigEndian 4 v) ≡ 4 = big-length 4 v in
+    let c : length (f ++ bigEndian 4 v) ≡ 5 * i + 4 = length-append f (bigEndian 4 v) ∙ omega arith in
+    let x₁ : x ≡ sets y (parametersAt + 5 * i) (bigEndian 4 v) =
+    ex ∙ (ap (λ (k : ℕ). stored (getD (layout current) (8 + 2 * i) noSlot) k y) en ∙ ap (λ (s : Slot). stored s v y) (value-slot i (8 + 2 * i) h refl)) in
+    let z₁ : z ≡ sets x (parametersAt + 5 * i + 4) (bigEndian 1 l) =
+    ez ∙ (ap (λ (k : ℕ). stored (getD (layout current) (8 + 2 * i + 1) noSlot) k x) em ∙ ap (λ (s : Slot). stored s l x) (level-slot i (8 + 2 * i + 1) h refl)) in
+    let x₂ : x ≡ sets o parametersAt (f ++ bigEndian 4 v) = x₁ ∙ sets-next o y parametersAt (parametersAt + 5 * i) f (bigEndian 4 v) q (omega arith) in
+    let z₂ : z ≡ sets o parametersAt ((f ++ bigEndian 4 v) ++ bigEndian 1 l) =
+    z₁ ∙ sets-next o x parametersAt (parametersAt + 5 * i + 4) (f ++ bigEndian 4 v) (bigEndian 1 l) x₂ (omega arith) in
+    z₂ ∙ (ap (sets o parametersAt) (append-assoc f (bigEndian 4 v) (bigEndian 1 l) ∙ sym (packed-append (parameterItems i) (pair i) r)) ∙
+    ap (λ (j : ℕ). sets o parametersAt (packed (parameterItems j) r)) (sym (add-one i)))
+
+pub parameters-all : (r : Record) (i : ℕ) (o z : List ℕ) → i ≤ parameterCount → parameterCount ≤ i → Parameters r i o z
+    → z ≡ sets o parametersAt (packed (parameterItems parameterCount) r)
+parameters-all r i o z l h e = let q : i ≡ parameterCount = omega arith in e ∙ ap (λ (j : ℕ). sets o parametersAt (packed (parameterItems j) r)) q
+
+-- ---- the header
+module _ (o ys : List ℕ) (room : 3 ≤ length o) (filled : ys ≡ bigEndian (length (take 2 (drop 1 (set o 0 1)))) 177) where
+  pub header-put : putMid 1 2 (set o 0 1) ys ≡ sets o 0 heading
+  header-put =
+      let l = length-set o 0 1 in
+      part-filled 1 2 177 (set o 0 1) ys (omega arith) filled ∙ ap (λ (n : ℕ). sets (set o 0 1) 1 (bigEndian 2 n)) (sym stored-177)
+
+  pub header-same : length (putMid 1 2 (set o 0 1) ys) ≡ length o
+  header-same = ap length header-put ∙ length-sets o 0 heading
+
+-- ---- all
+pub form-length : (r : Record) → length (storedForm r) ≡ storedLength current
+unfolding storedForm storedLength
+form-length r =
+    let b = big-length 2 (storedLength current) in
+    let p = packed-length (items current) r in
+    length-append heading (packed (items current) r) ∙ omega arith
+
+module _ (r : Record) (o : List ℕ) (b : Bool) (v : b ≡ valid r) where
+  pub write-invalid : not b ≡ true → (K 5, o) ≡ writeOf r o
+  unfolding writeOf
+  write-invalid n = simp (sym v ∙ not-true b n)
+
+  pub write-short : not b ≡ false → length o < 177 → (K 6, o) ≡ writeOf r o
+  unfolding writeOf
+  write-short n h = simp (sym v ∙ not-false b n, stored-177, lt-leb 177 (length o) h)
+
+  pub write-whole : (x y z : List ℕ) → not b ≡ false → 177 ≤ length o → x ≡ sets o 0 heading → y ≡ sets x headerWidth (packed scalarItems r)
+      → z ≡ sets y parametersAt (packed (parameterItems parameterCount) r) → (done, z) ≡ writeOf r o
+  unfolding writeOf storedForm
+  write-whole x y z n h ex ey ez =
+      let l : length heading ≡ 3 = let c = big-length 2 (storedLength current) in omega arith in
+      let m = packed-length scalarItems r in
+      let k : length (heading ++ packed scalarItems r) ≡ parametersAt = length-append heading (packed scalarItems r) ∙ omega arith in
+      let y₁ : y ≡ sets o 0 (heading ++ packed scalarItems r) = ey ∙ sets-next o x 0 headerWidth heading (packed scalarItems r) ex (omega arith) in
+      let z₁ : z ≡ sets o 0 ((heading ++ packed scalarItems r) ++ packed (parameterItems parameterCount) r) =
+      ez ∙ sets-next o y 0 parametersAt (heading ++ packed scalarItems r) (packed (parameterItems parameterCount) r) y₁ (omega arith) in
+      let whole : (heading ++ packed scalarItems r) ++ packed (parameterItems parameterCount) r ≡ storedForm r =
+      append-assoc heading (packed scalarItems r) (packed (parameterItems parameterCount) r) ∙
+      ap (λ (t : List ℕ). heading ++ t) (sym (packed-append scalarItems (parameterItems parameterCount) r)) in
+      let z₂ : z ≡ over (storedForm r) o = z₁ ∙ (ap (sets o 0) whole ∙ sets-over (storedForm r) o (omega (arith, form-length r, stored-177))) in
+      ap (λ (t : List ℕ). (done, t)) z₂ ∙ simp (sym v ∙ not-false b n, stored-177, le-leb 177 (length o) h)
+
+-- ---- the number at a place, as the code gives it
+abbrev pub scalarNumbers : Record → List ℕ
+scalarNumbers r =
+    r .address ∷ r .access ∷ phaseNumber (r .phase) ∷ bits r flagFields ∷ r .recipe ∷ r .preset ∷ r .raw ∷ r .number ∷ []
+
+pub number-here : (j : ℕ) (r : Record) (k n : ℕ) → k ≡ j → n ≡ getD (scalarNumbers r) j 0 → n ≡ getD (numbersOf scalarItems r) k 0
+unfolding numbersOf
+number-here j r k n e q = q ∙ ap (λ (i : ℕ). getD (scalarNumbers r) i 0) (sym e)
+
+-- by one step more
+pub number-there : (j : ℕ) (r : Record) (k n m : ℕ) → k ≡ j → n ≡ m → m ≡ getD (scalarNumbers r) j 0 → n ≡ getD (numbersOf scalarItems r) k 0
+number-there j r k n m e p q = number-here j r k n e (p ∙ q)
+
+pub number-last : (r : Record) (k n : ℕ) → Others k → k < 8 → n ≡ getD (scalarNumbers r) 7 0 → n ≡ getD (numbersOf scalarItems r) k 0
+number-last r k n o h q = number-here 7 r k n (last-place k o h) q
