@@ -1,56 +1,96 @@
-/* The proved blending controller, panel, stored form, host side and judge, over bytes and numbers.
+/* The proved blending controller, panel, stored form, host side and judge, over bytes and numbers. For C99 and C++.
  *
- * Every function takes any bytes, lengths and numbers. A slice is a pointer and a length; a length of 0 may go with any
- * pointer that is not null. Lent slices of one call must not overlap where one of them is written.
+ * Every function takes any bytes, lengths and numbers. What no proof can give is asked of the pointers:
+ *     none is null, also where the length beside it is 0;
+ *     as many bytes as that length says are there to be read, and to be written where the pointer is not const;
+ *     what is written overlaps nothing else of the same call, and no other thread touches it meanwhile;
+ *     what is only read, no other thread writes meanwhile;
+ *     place and count of khuyapesh_judge are aligned as size_t is.
  *
- * A record is lent in its stored form, KHUYAPESH_STORED_LENGTH bytes. Numbers that are answered:
- *     100 + n   silence Sn (S2 to S8; a record that is not valid is answered by its K)
- *     200 + n   stored form refused, Kn
- *     300       no such kind or event
- *     400 + n   host side refused, Hn
- *     500 + n   recording refused, Jn
- * A refusal or silence leaves every lent byte as it was, unless said otherwise. */
+ * A call takes under KHUYAPESH_STACK bytes of stack, no heap and no static data, and needs nothing outside of the library
+ * but memcpy, memmove, memset or memcmp. So every function is re-entrant, and threads may call at the same time, each over
+ * buffers of its own.
+ *
+ * A record is lent in its stored form. A silence or refusal leaves every lent byte as it was, unless said otherwise. */
 #ifndef KHUYAPESH_H
 #define KHUYAPESH_H
 
 #include <stddef.h>
 #include <stdint.h>
 
-#define KHUYAPESH_STORED_LENGTH 177
+#define KHUYAPESH_STACK 4096
 
+/* Bytes of a stored record; of the longest frame, and the least room for a reply, a built frame or a text that is read; of
+ * the longest recording. */
+#define KHUYAPESH_STORED_LENGTH 177
+#define KHUYAPESH_FRAME_ROOM 64
+#define KHUYAPESH_RECORDING_LENGTH 65535
+
+/* The kind of a link. */
 #define KHUYAPESH_MINICOMPUTER 0
 #define KHUYAPESH_TERMINAL 1
 
+/* The panel's events. */
 #define KHUYAPESH_PULSES 0
 #define KHUYAPESH_STILL 1
 #define KHUYAPESH_KEYPAD_ON 2
 #define KHUYAPESH_KEYPAD_OFF 3
 #define KHUYAPESH_POWER_BACK 4
 
+/* What is answered: a length (4 to 64), one of these three, */
+#define KHUYAPESH_DONE 0u
+#define KHUYAPESH_FITS 0u
+#define KHUYAPESH_REFUTED 1u
+/* or, from 100 on, one of these classes plus the number that document 01 gives within it:
+ *     silences: S2 short reply buffer, S3 request's length, S4 mark, S5 check, S6 text byte, S7 address or code not of its
+ *         form, S8 another address (a record that is not valid, S1, is answered by its K)
+ *     stored bytes: K1 length, K2 version, K3 length field, K4 field out of range, K6 short buffer
+ *     no such kind or event: alone, nothing is added
+ *     host side: H1 short buffer, H2 text's length, H3 text byte
+ *     recordings: J1 length, J2 version, J3 length field, J4 address or access, J5 cut exchange */
+#define KHUYAPESH_SILENCE 100u
+#define KHUYAPESH_STORED 200u
+#define KHUYAPESH_NO_SUCH 300u
+#define KHUYAPESH_HOST 400u
+#define KHUYAPESH_RECORDING 500u
+
+/* Whether an answer of any of the functions is a silence or refusal; if so, its class and its number within that. */
+static inline int khuyapesh_is_refusal(uint32_t answer) { return answer >= KHUYAPESH_SILENCE; }
+static inline uint32_t khuyapesh_class(uint32_t answer) { return answer - answer % 100u; }
+static inline uint32_t khuyapesh_number(uint32_t answer) { return answer % 100u; }
+
+#ifdef __cplusplus
+extern "C" {
+#endif
+
 /* One call of the controller. Answers the reply's length, with the reply at the start of the reply buffer, the rest of
- * which stays, and the record after it in place of the stored record; or 300, then 201 to 204, then 102 to 108. */
+ * which stays, and the record after it in place of the stored record; or no such kind, then K1 to K4, then S2 to S8. */
 uint32_t khuyapesh_call(uint8_t kind, uint8_t *stored, size_t stored_length, const uint8_t *request, size_t request_length,
                         uint8_t *reply, size_t reply_length);
 
-/* One panel event; pulses is read by KHUYAPESH_PULSES alone. Answers 0, with the record after it in place of the stored
- * record; or 300, then 201 to 204. */
+/* One panel event; pulses is read by KHUYAPESH_PULSES alone. Answers KHUYAPESH_DONE, with the record after it in place of
+ * the stored record; or no such event, then K1 to K4. */
 uint32_t khuyapesh_panel(uint8_t event, uint16_t pulses, uint8_t *stored, size_t stored_length);
 
 /* Reads a stored record and writes the record that was read, in its stored form, to the start of out, the rest of which
- * stays. Answers 0; or 201 to 204, and then the record written is the low one (every field at its low end, Idle, flags off);
- * or 206 if out is under KHUYAPESH_STORED_LENGTH bytes, with out untouched, whatever the stored bytes are. */
+ * stays. Answers KHUYAPESH_DONE; or K1 to K4, and then the record written is the low one (every field at its low end, Idle,
+ * flags off); or K6 if out is under KHUYAPESH_STORED_LENGTH bytes, with out untouched, whatever the stored bytes are. */
 uint32_t khuyapesh_stored(const uint8_t *stored, size_t stored_length, uint8_t *out, size_t out_length);
 
-/* Host side: builds the frame of a text at the start of out, the rest of which stays. Answers the frame's length; or 300,
- * then 401 to 403. */
+/* Host side: builds the frame of a text at the start of out, the rest of which stays. Answers the frame's length; or no
+ * such kind, then H1 to H3. */
 uint32_t khuyapesh_build(uint8_t kind, const uint8_t *text, size_t text_length, uint8_t *out, size_t out_length);
 
-/* Host side: copies a frame's text to the start of out, the rest of which stays. Answers the text's length; or 300, then
- * 401, then 103 to 106. */
+/* Host side: copies a frame's text to the start of out, the rest of which stays. Answers the text's length; or no such
+ * kind, then H1, then S3 to S6. */
 uint32_t khuyapesh_read(uint8_t kind, const uint8_t *frame, size_t frame_length, uint8_t *out, size_t out_length);
 
-/* Judges a recording. Answers 0 for `fits N`, with 0 in *place and N in *count; 1 for `refuted at I of N`, with I in *place
- * and N in *count; 500 + n for `refused Jn`, with 0 in both. */
+/* Judges a recording. Answers KHUYAPESH_FITS for `fits N`, with 0 in *place and N in *count; KHUYAPESH_REFUTED for `refuted
+ * at I of N`, with I in *place and N in *count; J1 to J5 for `refused Jn`, with 0 in both. */
 uint32_t khuyapesh_judge(const uint8_t *recording, size_t recording_length, size_t *place, size_t *count);
+
+#ifdef __cplusplus
+}
+#endif
 
 #endif

@@ -1,0 +1,70 @@
+/* Runs the functions on a stack that was painted before, and prints how much of it was written over. Status 1 if that is not
+ * under KHUYAPESH_STACK, or if an answer is not the expected one. */
+#define _XOPEN_SOURCE 700
+#include <stdio.h>
+#include <string.h>
+#include <ucontext.h>
+
+#include "../../include/khuyapesh.h"
+
+enum { PAINT = 0xa5 };
+
+static unsigned char stack[16 * KHUYAPESH_STACK];
+static ucontext_t caller, callee;
+static int expected = 1;
+
+/* Every function, and requests that are read, written and refused, their replies recorded and judged. */
+static void work(void)
+{
+    static const char *const texts[] = {"01EQ", "01RS", "01RC", "01PC 032 10150", "01XC 011 0", "01SB 500", "01SA", "01QQ"};
+    static uint8_t stored[KHUYAPESH_STORED_LENGTH], copy[KHUYAPESH_STORED_LENGTH];
+    static uint8_t request[KHUYAPESH_FRAME_ROOM], reply[KHUYAPESH_FRAME_ROOM], text[KHUYAPESH_FRAME_ROOM];
+    static uint8_t recording[2048];
+    size_t recorded = 5, place, count, index;
+
+    khuyapesh_stored(copy, 0, stored, sizeof stored);
+    for (index = 0; index < sizeof texts / sizeof *texts; index++) {
+        uint32_t sent = khuyapesh_build(0, (const uint8_t *)texts[index], strlen(texts[index]), request, sizeof request);
+        uint32_t got = khuyapesh_call(0, stored, sizeof stored, request, sent, reply, sizeof reply);
+
+        expected &= !khuyapesh_is_refusal(got) && !khuyapesh_is_refusal(khuyapesh_read(0, reply, got, text, sizeof text));
+        recording[recorded] = (uint8_t)sent;
+        memcpy(recording + recorded + 1, request, sent);
+        recorded += 1 + sent;
+        recording[recorded] = (uint8_t)got;
+        memcpy(recording + recorded + 1, reply, got);
+        recorded += 1 + got;
+    }
+    recording[0] = 1;
+    recording[1] = (uint8_t)(recorded >> 8);
+    recording[2] = (uint8_t)recorded;
+    recording[3] = 1;
+    expected &= khuyapesh_judge(recording, recorded, &place, &count) == KHUYAPESH_FITS;
+    expected &= khuyapesh_panel(KHUYAPESH_PULSES, 500, stored, sizeof stored) == KHUYAPESH_DONE;
+    expected &= khuyapesh_stored(stored, sizeof stored, copy, sizeof copy) == KHUYAPESH_DONE;
+}
+
+static void run(void)
+{
+    getcontext(&callee);
+    callee.uc_stack.ss_sp = stack;
+    callee.uc_stack.ss_size = sizeof stack;
+    callee.uc_link = &caller;
+    makecontext(&callee, work, 0);
+    swapcontext(&caller, &callee);
+}
+
+int main(void)
+{
+    size_t left = 0, used;
+
+    /* once before, so that the linker has looked up by then what it looks up at a first call */
+    run();
+    memset(stack, PAINT, sizeof stack);
+    run();
+    while (left < sizeof stack && stack[left] == PAINT)
+        left++;
+    used = sizeof stack - left;
+    printf("stack: %lu of %d bytes\n", (unsigned long)used, KHUYAPESH_STACK);
+    return !expected || used >= KHUYAPESH_STACK;
+}
