@@ -14,10 +14,16 @@ fn main() {
         None => PathBuf::from(env::var_os("CARGO_MANIFEST_DIR").expect("cargo names the package"))
             .join("../target/staticlib"),
     };
-    println!(
-        "cargo:rerun-if-changed={}",
-        folder.join("libexports.a").display()
-    );
+    let archive = folder.join("libexports.a");
+    println!("cargo:rerun-if-changed={}", archive.display());
+    if !archive.is_file() {
+        println!(
+            "cargo::error=there is no {}: make it with `rt staticlib exports` in the repository's root, or name its folder in \
+             KHUYAPESH_LIBRARY, or build with --features self_test, which needs none.",
+            archive.display()
+        );
+        return;
+    }
     println!("cargo:rustc-link-search=native={}", folder.display());
     println!("cargo:rustc-link-lib=static=exports");
 }
