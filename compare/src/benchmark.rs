@@ -1,4 +1,5 @@
-//! The library beside this program on the same inputs. Times are of one run and test nothing.
+//! The library beside this program on the same inputs: times, which are of one run and test nothing,
+//! or a fixed amount of work for callgrind to count the instructions of.
 
 use crate::fault::Fault;
 use crate::frame::{self, Kind};
@@ -10,50 +11,24 @@ use crate::{interface, library};
 use std::hint::black_box;
 use std::time::{Duration, Instant};
 
-const SLICE: Duration = Duration::from_millis(25);
-const SLICES: usize = 12;
-
-/// Seconds for one turn within a slice of time.
-fn slice(turn: &mut impl FnMut()) -> f64 {
-    let start = Instant::now();
-    let mut turns = 0;
-    while start.elapsed() < SLICE {
-        turn();
-        turns += 1;
-    }
-    start.elapsed().as_secs_f64() / f64::from(turns)
+/// The same work for both, by turns.
+struct Class {
+    name: String,
+    unit: &'static str,
+    /// How many of the unit one turn is.
+    units: usize,
+    library: Box<dyn FnMut()>,
+    second: Box<dyn FnMut()>,
 }
 
-/// Seconds for one turn of each, by turns, the best of several slices: other work on the machine
-/// then tells least.
-fn seconds(mut first: impl FnMut(), mut second: impl FnMut()) -> (f64, f64) {
-    let mut best = (f64::INFINITY, f64::INFINITY);
-    for _ in 0..SLICES {
-        best.0 = best.0.min(slice(&mut first));
-        best.1 = best.1.min(slice(&mut second));
-    }
-    best
-}
-
-fn line(name: &str, unit: &str, library: f64, second: f64) {
-    println!(
-        "{name:<34} {:>13.0} {:>13.0} {unit:<10} {:>6.2}",
-        1.0 / library,
-        1.0 / second,
-        second / library
-    );
-}
-
-pub fn run(seed: u64) {
-    println!(
-        "{:<34} {:>13} {:>13} {:<10} {:>6}",
-        "", "library", "second", "per second", "ratio"
-    );
+fn classes(seed: u64) -> Vec<Class> {
     let mut random = Random::new(seed);
-    calls(&mut random);
-    conversion(&mut random);
-    judged(&mut random);
-    println!("ratio: how many times faster the library is in this run");
+    let mut classes = calls(&mut random);
+    classes.push(conversion(&mut random));
+    for length in [1_000, 8_000, 65_535] {
+        classes.push(judged(&mut random, length));
+    }
+    classes
 }
 
 type Mix = (&'static str, Vec<Vec<u8>>);
@@ -107,7 +82,7 @@ fn mixes(random: &mut Random, address: u8) -> Vec<Mix> {
     ]
 }
 
-fn calls(random: &mut Random) {
+fn calls(random: &mut Random) -> Vec<Class> {
     let record = Record {
         address: 1,
         access: 3,
@@ -116,19 +91,22 @@ fn calls(random: &mut Random) {
         ..records::record(random)
     };
     let form = stored::form(&record);
-    for (name, requests) in mixes(random, record.address) {
-        let count = requests.len() as f64;
+    let class = |(name, requests): Mix| {
         let (mut form_first, mut form_second) = (form, form);
         let (mut reply_first, mut reply_second) = ([0; 64], [0; 64]);
-        let (first, second) = seconds(
-            || {
+        let requests_second = requests.clone();
+        Class {
+            name: name.to_string(),
+            unit: "call",
+            units: requests.len(),
+            library: Box::new(move || {
                 for request in &requests {
                     let answer = library::call(0, &mut form_first, request, &mut reply_first);
                     black_box(answer);
                 }
-            },
-            || {
-                for request in &requests {
+            }),
+            second: Box::new(move || {
+                for request in &requests_second {
                     let answer = interface::call(
                         0,
                         &mut form_second,
@@ -138,50 +116,123 @@ fn calls(random: &mut Random) {
                     );
                     black_box(answer);
                 }
-            },
-        );
-        line(name, "calls", first / count, second / count);
-    }
+            }),
+        }
+    };
+    mixes(random, record.address)
+        .into_iter()
+        .map(class)
+        .collect()
 }
 
 /// Reading a stored form and writing it again, which each call over bytes does beside its own work.
-fn conversion(random: &mut Random) {
+fn conversion(random: &mut Random) -> Class {
     let form = stored::form(&records::record(random));
     let (mut out_first, mut out_second) = ([0; STORED_LENGTH], [0; STORED_LENGTH]);
-    let (first, second) = seconds(
-        || {
+    Class {
+        name: "stored form read and written".to_string(),
+        unit: "form",
+        units: 1,
+        library: Box::new(move || {
             black_box(library::stored(black_box(&form), &mut out_first));
-        },
-        || {
-            black_box(interface::stored(
-                black_box(&form),
-                &mut out_second,
-                Fault::None,
-            ));
-        },
-    );
-    line("stored form read and written", "forms", first, second);
+        }),
+        second: Box::new(move || {
+            let answer = interface::stored(black_box(&form), &mut out_second, Fault::None);
+            black_box(answer);
+        }),
+    }
 }
 
-fn judged(random: &mut Random) {
-    for length in [1_000, 8_000, 65_535] {
-        let recording = recordings::long(random, length);
-        let bytes = recording.len() as f64;
-        let (first, second) = seconds(
-            || {
-                black_box(library::judge(black_box(&recording)));
-            },
-            || {
-                black_box(interface::judge(black_box(&recording), Fault::None));
-            },
-        );
-        let name = format!("judge: {} bytes that fit", recording.len());
-        line(&name, "bytes", first / bytes, second / bytes);
+fn judged(random: &mut Random, length: usize) -> Class {
+    let recording = recordings::long(random, length);
+    let recording_second = recording.clone();
+    Class {
+        name: format!("judge: {} bytes that fit", recording.len()),
+        unit: "byte",
+        units: recording.len(),
+        library: Box::new(move || {
+            black_box(library::judge(black_box(&recording)));
+        }),
+        second: Box::new(move || {
+            black_box(interface::judge(black_box(&recording_second), Fault::None));
+        }),
+    }
+}
+
+const SLICE: Duration = Duration::from_millis(25);
+const SLICES: usize = 12;
+
+/// Seconds for one turn within a slice of time.
+fn slice(turn: &mut dyn FnMut()) -> f64 {
+    let start = Instant::now();
+    let mut turns = 0;
+    while start.elapsed() < SLICE {
+        turn();
+        turns += 1;
+    }
+    start.elapsed().as_secs_f64() / f64::from(turns)
+}
+
+/// Seconds for one turn of each, by turns, the best of several slices: other work on the machine
+/// then tells least.
+fn seconds(class: &mut Class) -> (f64, f64) {
+    let mut best = (f64::INFINITY, f64::INFINITY);
+    for _ in 0..SLICES {
+        best.0 = best.0.min(slice(&mut class.library));
+        best.1 = best.1.min(slice(&mut class.second));
+    }
+    best
+}
+
+pub fn timed(seed: u64) {
+    println!(
+        "{:<34} {:>13} {:>13} {:<10} {:>6}",
+        "", "library", "second", "per second", "ratio"
+    );
+    for mut class in classes(seed) {
+        let (library, second) = seconds(&mut class);
+        let units = class.units as f64;
         println!(
-            "{:<34} {:>13.2} {:>13.2} ns a byte",
-            "",
-            first / bytes * 1e9,
-            second / bytes * 1e9
+            "{:<34} {:>13.0} {:>13.0} {:<10} {:>6.2}",
+            class.name,
+            units / library,
+            units / second,
+            format!("{}s", class.unit),
+            second / library
         );
+        if class.unit == "byte" {
+            println!(
+                "{:<34} {:>13.2} {:>13.2} ns a byte",
+                "",
+                library / units * 1e9,
+                second / units * 1e9
+            );
+        }
+    }
+    println!("ratio: how many times faster the library is in this run");
+}
+
+/// At least so many units are counted, so that what one turn leaves for the next is among them.
+const COUNTED_UNITS: usize = 1_000;
+
+/// All that `scripts/benchmark` has callgrind count; it knows the function by its name.
+#[inline(never)]
+fn counted_turns(turn: &mut dyn FnMut(), turns: usize) {
+    for _ in 0..turns {
+        turn();
+    }
+}
+
+/// Prints name, unit and number of units for each class, and does that work with the library, then
+/// with this program.
+pub fn counted(seed: u64) {
+    for mut class in classes(seed) {
+        let turns = COUNTED_UNITS.div_ceil(class.units);
+        println!("{}\t{}\t{}", class.name, class.unit, turns * class.units);
+        for side in [&mut class.library, &mut class.second] {
+            // What only a first turn does, as asking the system for memory, is not counted.
+            side();
+            counted_turns(side, turns);
+        }
     }
 }

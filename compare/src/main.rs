@@ -28,12 +28,14 @@ mod worked_examples;
 use run::Amounts;
 use std::process::ExitCode;
 
-const USAGE: &str = "compare [faults | benchmark] [--calls N] [--recordings N] [--seed N]";
+const USAGE: &str =
+    "compare [faults | benchmark | counted] [--calls N] [--recordings N] [--seed N]";
 
 enum Task {
     Compare,
     Faults,
     Benchmark,
+    Counted,
 }
 
 fn read_arguments() -> Option<(Task, Amounts)> {
@@ -44,6 +46,7 @@ fn read_arguments() -> Option<(Task, Amounts)> {
         match argument.as_str() {
             "faults" => task = Task::Faults,
             "benchmark" => task = Task::Benchmark,
+            "counted" => task = Task::Counted,
             "--calls" => amounts.calls = arguments.next()?.parse().ok()?,
             "--recordings" => amounts.recordings = arguments.next()?.parse().ok()?,
             "--seed" => amounts.seed = arguments.next()?.parse().ok()?,
@@ -75,7 +78,11 @@ fn main() -> ExitCode {
         Task::Compare => compare(amounts),
         Task::Faults => planted::every_fault_is_caught(amounts),
         Task::Benchmark => {
-            benchmark::run(amounts.seed);
+            benchmark::timed(amounts.seed);
+            true
+        }
+        Task::Counted => {
+            benchmark::counted(amounts.seed);
             true
         }
     };
