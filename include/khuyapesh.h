@@ -7,9 +7,10 @@
  *     what is only read, no other thread writes meanwhile;
  *     place and count of khuyapesh_judge are aligned as size_t is.
  *
- * A call takes under KHUYAPESH_STACK bytes of stack, no heap and no static data, and needs nothing outside of the library
- * but memcpy, memmove, memset or memcmp. So every function is re-entrant, and threads may call at the same time, each over
- * buffers of its own.
+ * A call takes under KHUYAPESH_STACK bytes of stack and no heap, writes no data but what is lent, and needs nothing outside
+ * of the library but memcpy, memmove, memset or memcmp. So every function is re-entrant, and threads may call at the same
+ * time, each over buffers of its own. (A dynamic linker that looks up memcpy when it is first called takes stack of its own
+ * then; linking with -z now, or statically, avoids that.)
  *
  * A record is lent in its stored form. A silence or refusal leaves every lent byte as it was, unless said otherwise. */
 #ifndef KHUYAPESH_H
