@@ -63,7 +63,7 @@ pub record Answered (k : Kind) (r : Record) (q o : List ℕ) : Type 0 where
   pub room : 64 ≤ length o
 
 -- a reply's text is legal, and its frame fits the buffer
-reply-legal : (t : List ℕ) (r : Record) → Text 4 29 (replyText t r)
+pub reply-legal : (t : List ℕ) (r : Record) → Text 4 29 (replyText t r)
 reply-legal t r = subst (Text 4 29) (text-by-steps t r) (text-legal (verdictFor (requestOf t) r) (requestOf t) r (verdict-answers (requestOf t) r))
 
 frame-sizes : (k : Kind) (t : List ℕ) → Text 4 29 t → (7 ≤ length (frameOf k t)) × (length (frameOf k t) ≤ 64)
@@ -157,7 +157,7 @@ changes-exactly t r v h g =
     ap (λ (x : Verdict). get g (recordFor x t r)) h ∙ applied-reads r v (rowOf (codeIn t) commands .effect t r) (fitting t r v h) g
 
 -- ---- a frame that a call replies with is read back by the host side and gives the reply's text
-is-answered : (k : Kind) (r : Record) (q o : List ℕ) → callOf k r q o .silence ≡ 0 → Answered k r q o
+pub is-answered : (k : Kind) (r : Record) (q o : List ℕ) → callOf k r q o .silence ≡ 0 → Answered k r q o
 is-answered k r q o h = ⊎-elim (λ (s : Silenced k r q o). let l = s .low in absurd (omega arith)) (λ (a : Answered k r q o). a) (every-input k r q o)
 
 pub host-reads : (k : Kind) (r : Record) (q o o′ : List ℕ) → callOf k r q o .silence ≡ 0 → 64 ≤ length o′

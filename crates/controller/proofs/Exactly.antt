@@ -1,0 +1,255 @@
+-- When a call is silent and with which silence, and when it says NO and with which number, each as "if and only if", for any record,
+-- kind of link, request bytes and reply buffer. From the bytes of a reply back to its row: a frame determines its text, no accepted
+-- reply begins with "N", and two digits determine a number below 100. Assumes nothing.
+use Prim.Native.Nat.{ℕ, zero, suc, _+_, _≤_, _<_}
+use mathlib.Core.Bool.{Bool, true, false, not, _&&_, false≢true}
+use mathlib.Core.Path.{_≡_, refl, sym, ap, subst, _∙_}
+use mathlib.Core.List.{List, [], _∷_, _++_}
+use mathlib.Core.Logic.{_↔_, _⊎_, inl, inr, ⊎-elim}
+use native.Mathlib.Nat.{le-of-suc-le-suc}
+use native.Mathlib.Omega.{arith}
+use lib.Dec.{eqb, leb, ltb}
+use lib.ListN.{length, take, drop, getD}
+use lib.Seq.{drop-at}
+use borrow.Author.Tests.{ltb-true, ne-eqb}
+use Rattle.base.specs.Test.{unless, allBetween}
+use Rattle.base.proofs.Tests.{and-left, and-right, below-or-not}
+use Rattle.state.specs.declared.Record.{Record}
+use Rattle.state.specs.Field.{address, keypad, flow, get}
+use Rattle.state.specs.Valid.{valid}
+use Rattle.state.specs.Event.{running, stopped}
+use Rattle.state.specs.Event as event
+use Rattle.frame.specs.declared.Kind.{Kind}
+use Rattle.frame.specs.Frame.{allText, namesUnit, addressIn, frameOf, textIn, withinLimits, marksRight, checkRight}
+use Rattle.frame.proofs.Laws.{over-take}
+use Rattle.frame.proofs.RoundTrip.{frame-located}
+use Rattle.command.specs.Word.{digits, valueOf}
+use Rattle.command.specs.Status.{inPhases, isOn, weight, first, statusCharacters}
+use Rattle.command.specs.Commands.{Command, codeIn, commands, rowOf, word}
+use Rattle.command.specs.Refusals.{Row, refusals, rowNumber, applies}
+use Rattle.command.specs.Answer.{Verdict, NO, accepted, verdict, replyFor, replyText}
+use Rattle.command.proofs.Parsing.{digits-length, value-digits}
+use Rattle.command.proofs.Tables.{by-test, FirstAt, noRow}
+use Rattle.reply.proofs.Laws.{Text, text-wider, text-joined, text-digits, text-labelled}
+use Rattle.controller.specs.Call.{Outcome, callOf}
+use Rattle.controller.proofs.Theorems.{reply-legal, is-answered, refusal-keeps, no-by-row, row-goes-out, accepted-by-none}
+
+-- ---- the first of several tests that fails
+
+-- the test at a place, counted from 0, fails and none before it does
+pub record FirstFailing (bs : List Bool) (i : ℕ) : Type 0 where
+  pub fails : getD bs i true ≡ false
+  pub before : (j : ℕ) → j < i → getD bs j true ≡ true
+
+-- no test fails
+abbrev NoneFails : List Bool → Type 0
+NoneFails bs = (j : ℕ) → getD bs j true ≡ true
+
+-- the number of the first that fails, where the first of all has number n; 0 if none fails
+abbrev failing : ℕ → List Bool → ℕ
+failing n [] = 0
+failing n (b ∷ bs) = unless b n (failing (suc n) bs)
+
+-- it is found, or none fails
+first-or-none : (bs : List Bool) (n : ℕ) → ((i : ℕ) × FirstFailing bs i × (failing n bs ≡ n + i)) ⊎ (NoneFails bs × (failing n bs ≡ 0))
+first-or-none [] n = inr ((λ j. refl), refl)
+first-or-none (false ∷ bs) n = inl (0, record { fails = refl; before = λ j l. absurd (omega arith) }, omega arith)
+first-or-none (true ∷ bs) n =
+    ⊎-elim (λ (x : (i : ℕ) × FirstFailing bs i × (failing (suc n) bs ≡ suc n + i)). inl (later x))
+    (λ (x : NoneFails bs × (failing (suc n) bs ≡ 0)). inr (all (x .0), x .1)) (first-or-none bs (suc n))
+  where
+    all : NoneFails bs → NoneFails (true ∷ bs)
+    all h zero = refl
+    all h (suc j) = h j
+
+    before : (i : ℕ) → FirstFailing bs i → (j : ℕ) → j < suc i → getD (true ∷ bs) j true ≡ true
+    before i f zero l = refl
+    before i f (suc j) l = f .before j (le-of-suc-le-suc l)
+
+    later : (i : ℕ) × FirstFailing bs i × (failing (suc n) bs ≡ suc n + i) → (i : ℕ) × FirstFailing (true ∷ bs) i × (failing n (true ∷ bs) ≡ n + i)
+    later (i, f, e) = (suc i, record { fails = f .fails; before = before i f }, omega (arith, e))
+
+-- a test does not both hold and fail
+not-both : {A : Type 0} (b : Bool) → b ≡ true → b ≡ false → A
+not-both b h f = absurd (false≢true (sym f ∙ h))
+
+-- only one test is the first that fails
+first-once : (bs : List Bool) (i j : ℕ) → FirstFailing bs i → FirstFailing bs j → j ≤ i
+first-once bs i j f g =
+    ⊎-elim (λ (l : i < j). not-both (getD bs i true) (g .before i l) (f .fails)) (λ (l : j ≤ i). l) (below-or-not i j)
+
+-- the number tells the first that fails, and 0 tells that none does
+failing-exactly : (bs : List Bool) (i : ℕ) → failing 1 bs ≡ i + 1 ↔ FirstFailing bs i
+failing-exactly bs i =
+    ⊎-elim
+    (λ (x : (j : ℕ) × FirstFailing bs j × (failing 1 bs ≡ 1 + j)).
+    let (j, f, e) = x in (
+      λ h. let q : j ≡ i = omega arith in subst (FirstFailing bs) q f,
+      λ g. omega (arith, first-once bs i j g f, first-once bs j i f g),
+    ))
+    (λ (x : NoneFails bs × (failing 1 bs ≡ 0)). (λ h. absurd (omega (arith, x .1)), λ g. not-both (getD bs i true) (x .0 i) (g .fails)))
+    (first-or-none bs 1)
+
+none-exactly : (bs : List Bool) → failing 1 bs ≡ 0 ↔ NoneFails bs
+none-exactly bs =
+    ⊎-elim
+    (λ (x : (j : ℕ) × FirstFailing bs j × (failing 1 bs ≡ 1 + j)).
+    let (j, f, e) = x in (λ h. absurd (omega arith), λ g. not-both (getD bs j true) (g j) (f .fails)))
+    (λ (x : NoneFails bs × (failing 1 bs ≡ 0)). (λ h. x .0, λ g. x .1)) (first-or-none bs 1)
+
+-- ---- silence n if and only if test n is the first that fails
+
+-- the tests of S1 to S8, in their order
+abbrev pub tests : Kind → Record → List ℕ → List ℕ → List Bool
+tests k r q o =
+    valid r ∷ leb 64 (length o) ∷ withinLimits k (length q) ∷ marksRight k q ∷ checkRight k q ∷ allText (textIn k q) ∷ namesUnit (textIn k q)
+    ∷ eqb (addressIn (textIn k q)) (get address r) ∷ []
+
+-- the number of the silence is the number of that test
+silence-unless : (b : Bool) (x y : Outcome) → unless b x y .silence ≡ unless b (x .silence) (y .silence)
+silence-unless true x y = refl
+silence-unless false x y = refl
+
+silence-failing : (k : Kind) (r : Record) (q o : List ℕ) → callOf k r q o .silence ≡ failing 1 (tests k r q o)
+unfolding callOf
+silence-failing k r q o = simp silence-unless
+
+pub silence-exactly : (k : Kind) (r : Record) (q o : List ℕ) (i : ℕ) → callOf k r q o .silence ≡ i + 1 ↔ FirstFailing (tests k r q o) i
+silence-exactly k r q o i =
+    subst (λ (n : ℕ). n ≡ i + 1 ↔ FirstFailing (tests k r q o) i) (sym (silence-failing k r q o)) (failing-exactly (tests k r q o) i)
+
+pub heard-exactly : (k : Kind) (r : Record) (q o : List ℕ) → callOf k r q o .silence ≡ 0 ↔ ((j : ℕ) → getD (tests k r q o) j true ≡ true)
+heard-exactly k r q o = subst (λ (n : ℕ). n ≡ 0 ↔ NoneFails (tests k r q o)) (sym (silence-failing k r q o)) (none-exactly (tests k r q o))
+
+-- ---- no accepted reply begins with "N"
+
+weight-high : (w : ℕ) (b : Bool) → weight w b ≤ w
+weight-high w true = omega arith
+weight-high w false = omega arith
+
+-- EQ's first character is 0x3f at most
+status-begins : (r : Record) → eqb (0x30 + first r) 0x4e ≡ false
+status-begins r =
+    ne-eqb (0x30 + first r) 0x4e
+    (λ e.
+    omega (
+      arith,
+      weight-high 8 (isOn keypad r),
+      weight-high 4 (inPhases (running ∷ []) r),
+      weight-high 2 (isOn flow r),
+      weight-high 1 (inPhases (event.set ∷ running ∷ stopped ∷ []) r),
+    ))
+
+-- a text does not begin with "N"
+abbrev notN : List ℕ → Bool
+notN t = not (eqb (getD t 0 0) 0x4e)
+
+-- nor does the reply of any row; a code of no row has the empty reply
+abbrev allNotN : List Command → List ℕ → Record → Bool
+allNotN [] t r = true
+allNotN (c ∷ cs) t r = notN (c .reply t r) && allNotN cs t r
+
+commands-not-N : (t : List ℕ) (r : Record) → allNotN commands t r ≡ true
+unfolding statusCharacters
+commands-not-N t r = simp (status-begins r)
+
+row-not-N : (code : ℕ) (cs : List Command) (t : List ℕ) (r : Record) → allNotN cs t r ≡ true → notN (rowOf code cs .reply t r) ≡ true
+unfolding rowOf
+row-not-N code [] t r h = refl
+row-not-N code (c ∷ cs) t r h =
+    by-test (eqb code (c .code)) (λ e. simp e (and-left (notN (c .reply t r)) (allNotN cs t r) h))
+    (λ e. simp e (row-not-N code cs t r (and-right (notN (c .reply t r)) (allNotN cs t r) h)))
+
+-- ---- every row's number has two digits
+abbrev allBelow : List Row → Bool
+allBelow [] = true
+allBelow (row ∷ rows) = ltb (rowNumber row) 100 && allBelow rows
+
+number-below : (rows : List Row) (i : ℕ) → allBelow rows ≡ true → rowNumber (getD rows i noRow) < 100
+number-below [] i h = omega arith
+number-below (row ∷ rows) zero h = ltb-true (rowNumber row) 100 (and-left (ltb (rowNumber row) 100) (allBelow rows) h)
+number-below (row ∷ rows) (suc i) h = number-below rows i (and-right (ltb (rowNumber row) 100) (allBelow rows) h)
+
+-- ---- NO n goes out if and only if row n's own condition holds and no earlier row's does
+
+-- the frame of the address digits, "NO" and two digits
+abbrev pub noFrame : Kind → Record → ℕ → List ℕ
+noFrame k r n = frameOf k (digits 2 (get address r) ++ (word 0x4e 0x4f ++ digits 2 n))
+
+-- what the call put at the start of the buffer
+abbrev pub sent : Kind → Record → List ℕ → List ℕ → List ℕ
+sent k r q o = take (callOf k r q o .reported) (callOf k r q o .buffer)
+
+-- row n's own condition holds and no earlier row's does
+abbrev pub RowFirst : List ℕ → Record → ℕ → Type 0
+RowFirst t r n = (i : ℕ) × FirstAt refusals t r i × (rowNumber (getD refusals i noRow) ≡ n)
+
+row-verdict : {t : List ℕ} {r : Record} {n : ℕ} → RowFirst t r n → verdict t r ≡ NO n
+row-verdict {t} {r} (i, f, e) = row-goes-out t r i f ∙ ap NO e
+
+row-below : {t : List ℕ} {r : Record} {n : ℕ} → RowFirst t r n → n < 100
+row-below (i, f, e) = omega (arith, number-below refusals i refl)
+
+-- the reply determines the verdict
+reply-verdict : (t : List ℕ) (r : Record) (n : ℕ) → n < 100 → replyFor (verdict t r) t r ≡ replyFor (NO n) t r → verdict t r ≡ NO n
+reply-verdict t r n l = go (verdict t r) refl
+  where
+    go : (v : Verdict) → verdict t r ≡ v → replyFor v t r ≡ replyFor (NO n) t r → verdict t r ≡ NO n
+    go (NO m) e p =
+        let same : valueOf (digits 2 m) ≡ valueOf (digits 2 n) = ap (λ (x : List ℕ). valueOf (drop 2 x)) p in
+        e ∙ ap NO (sym (value-digits 2 m (row-below (no-by-row t r m e))) ∙ (same ∙ value-digits 2 n l))
+    go accepted e p = not-both (notN (replyFor accepted t r)) (row-not-N (codeIn t) commands t r (commands-not-N t r)) (ap notN p)
+
+no-legal : (a n : ℕ) → Text 4 29 (digits 2 a ++ (word 0x4e 0x4f ++ digits 2 n))
+unfolding allBetween
+no-legal a n =
+    text-wider _ _ _ _ _ (omega arith) (omega arith) (text-joined _ _ _ _ (digits 2 a) _ (text-digits 2 a) (text-labelled (word 0x4e 0x4f) 2 n refl))
+
+-- a frame determines its text
+frame-same : (k : Kind) (s t : List ℕ) → Text 4 29 s → Text 4 29 t → frameOf k s ≡ frameOf k t → s ≡ t
+frame-same k s t f g e = sym (read s f) ∙ (ap (textIn k) e ∙ read t g)
+  where
+    read : (x : List ℕ) → Text 4 29 x → textIn k (frameOf k x) ≡ x
+    read x h = frame-located k x (h .low) (omega (arith, h .high)) (h .bytes) .1
+
+module _ (k : Kind) (r : Record) (q o : List ℕ) (heard : callOf k r q o .silence ≡ 0) where
+  sent-frame : sent k r q o ≡ frameOf k (replyText (textIn k q) r)
+  sent-frame =
+      let a = is-answered k r q o heard in
+      ap (take (callOf k r q o .reported)) (a .frame) ∙ over-take (frameOf k (replyText (textIn k q) r)) o (callOf k r q o .reported) (sym (a .size))
+
+  verdict-exactly : (n : ℕ) → n < 100 → sent k r q o ≡ noFrame k r n ↔ verdict (textIn k q) r ≡ NO n
+  unfolding replyText
+  verdict-exactly n l =
+      let t : List ℕ = textIn k q in
+      let a : List ℕ = digits 2 (get address r) in
+      let behind : (x : List ℕ) → drop 2 (a ++ x) ≡ x = λ x. drop-at a x 2 (digits-length 2 (get address r)) in (
+        λ e.
+            let same : a ++ replyFor (verdict t r) t r ≡ a ++ replyFor (NO n) t r =
+            frame-same k _ _ (reply-legal t r) (no-legal (get address r) n) (sym sent-frame ∙ e) in
+            reply-verdict t r n l (sym (behind _) ∙ (ap (drop 2) same ∙ behind _)),
+        λ v. sent-frame ∙ ap (λ (x : Verdict). frameOf k (a ++ replyFor x t r)) v,
+      )
+
+  pub no-exactly : (n : ℕ) → n < 100 → sent k r q o ≡ noFrame k r n ↔ RowFirst (textIn k q) r n
+  no-exactly n l = (λ e. no-by-row (textIn k q) r n (verdict-exactly n l .0 e), λ f. verdict-exactly n l .1 (row-verdict f))
+
+  -- and then the record stays as it was
+  pub no-keeps : (n : ℕ) → RowFirst (textIn k q) r n → callOf k r q o .after ≡ r
+  no-keeps n f = is-answered k r q o heard .next-record ∙ refusal-keeps (textIn k q) r n (row-verdict f)
+
+  pub no-sent-keeps : (n : ℕ) → n < 100 → sent k r q o ≡ noFrame k r n → callOf k r q o .after ≡ r
+  no-sent-keeps n l e = no-keeps n (no-exactly n l .0 e)
+
+  -- no row applies if and only if what goes out is no NO
+  pub accepted-exactly : ((j : ℕ) → j < length refusals → applies (getD refusals j noRow) (textIn k q) r ≡ false)
+      ↔ ((n : ℕ) → n < 100 → sent k r q o ≡ noFrame k r n → ⊥)
+  accepted-exactly = (
+    λ none n l e. let (i, f, m) = no-exactly n l .0 e in not-both (applies (getD refusals i noRow) (textIn k q) r) (f .holds) (none i (f .listed)),
+    λ other. go other (verdict (textIn k q) r) refl,
+  )
+    where
+      go : ((n : ℕ) → n < 100 → sent k r q o ≡ noFrame k r n → ⊥) → (v : Verdict) → verdict (textIn k q) r ≡ v
+          → (j : ℕ) → j < length refusals → applies (getD refusals j noRow) (textIn k q) r ≡ false
+      go other (NO n) e = let l = row-below (no-by-row (textIn k q) r n e) in absurd (other n l (verdict-exactly n l .1 e))
+      go other accepted e = accepted-by-none (textIn k q) r e
