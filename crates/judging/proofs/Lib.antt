@@ -2,4 +2,3 @@ pub mod Exchange
 pub mod Loop
 pub mod Agreement
 pub mod Theorem
-pub mod Worked

@@ -1,7 +1,8 @@
 -- Document 01, "Worked on the bench record": the starred examples, controller and judge together, as one table under one statement. The
--- replies are computed on the definition that the promise of `call` cites. A recording's row is demand 3 itself: the judge's answer is
--- computed on its definition and is right by the theorem. Assumes nothing.
+-- replies are computed on the definition that the promise of `call` cites. A recording's row is its length, demand 3 itself, and the line
+-- that `write` lays: the judge's answer is computed on its definition and is right by the theorem. Assumes nothing.
 use Prim.Native.Nat.{ℕ, _+_}
+use Prim.Native.String.{String}
 use mathlib.Core.Path.{_≡_, refl, subst}
 use mathlib.Core.List.{List, [], _∷_, _++_, map}
 use lib.ListN.{length}
@@ -25,16 +26,19 @@ use Rattle.knowledge.specs.Knowledge.{codeAt, narrowed, told, becoming, advance
 use Rattle.showing.specs.Heard.{refusalIn, numberBehind, statusFormed}
 use Rattle.showing.specs.Shown.{shown, statusShown, allHold, listShown, codeShown}
 use Rattle.learning.specs.Learn.{learnOf, afterRefusal, afterAcceptance, moved}
 use Rattle.judging.proofs.Theorem.{judgement-right}
+use Rattle.line.specs.Line as line
+use Rattle.line.specs.Line.{newline, widthIn, decimal, lineOf}
 
--- frames sent to the bench record one after the other, each with the reply that it must get; or a recording with its answer
+-- frames sent to the bench record one after the other, each with the reply that it must get;
+-- or a recording, how many bytes it has, its answer, and the line that is printed
 pub data Example : Type 0 where
   calls : List Step → Example
-  recording : List ℕ → Judgement → Example
+  recording : List ℕ → ℕ → Judgement → String → Example
 
 abbrev pub Holds : Example → Type 0
 Holds (calls steps) = replies bench (map (λ s. s .request) steps) ≡ map (λ s. (length (s .reply), s .reply)) steps
-Holds (recording bs j) = Demand3 bs j
+Holds (recording bs n j s) = (length bs ≡ n) × Demand3 bs j × (lineOf j ≡ bytes s ++ newline)
 
 abbrev pub AllHold : List Example → Type 0
 AllHold [] = Unit {0}
@@ -50,13 +54,9 @@ laid (s ∷ ss) = length (s .request) ∷ (s .request ++ (length (s .reply) ∷ 
 abbrev pub recorded : List Step → List ℕ
 recorded ss = 1 ∷ 0 ∷ (5 + length (laid ss)) ∷ 1 ∷ 2 ∷ laid ss
 
--- "EQ "000000"; PC 032 10150 OK; RC .."; "It is 85 bytes"
+-- "EQ "000000"; PC 032 10150 OK; RC .."
 abbrev pub drum : List ℕ → List ℕ
 drum composition = recorded (EQ-frame gets status-frame ∷ framed "01PC 032 10150" gets OK-frame ∷ framed "01RC" gets composition ∷ [])
-
-pub drum-length : length (drum (framed "01RC 03 00010012")) ≡ 85
-unfolding bytes check
-drum-length = refl
 
 -- "01 00 05 01 02"
 abbrev pub none : List ℕ
@@ -75,29 +75,37 @@ abbrev pub table : List Example
 table =
     calls controller.table
     -- "Recording 01 00 05 01 02: `fits 0`."
-    ∷ recording none (judged (fits 0))
-    -- "prints `refuted at 3 of 3`. With "RC 04 00010012" instead: `fits 3`."
-    ∷ recording (drum (framed "01RC 03 00010012")) (judged (refuted 3 3))
-    ∷ recording (drum (framed "01RC 04 00010012")) (judged (fits 3))
+    ∷ recording none 5 (judged (fits 0)) "fits 0"
+    -- "It is 85 bytes and prints `refuted at 3 of 3`. With "RC 04 00010012" instead: `fits 3`."
+    ∷ recording (drum (framed "01RC 03 00010012")) 85 (judged (refuted 3 3)) "refuted at 3 of 3"
+    ∷ recording (drum (framed "01RC 04 00010012")) 85 (judged (fits 3)) "fits 3"
     -- "refuted at 3, no phase is left"
-    ∷ recording no-phase (judged (refuted 3 3))
+    ∷ recording no-phase 69 (judged (refuted 3 3)) "refuted at 3 of 3"
     -- "refuted at 2"
-    ∷ recording keypad-off (judged (refuted 2 2))
+    ∷ recording keypad-off 47 (judged (refuted 2 2)) "refuted at 2 of 2"
     ∷ []
 
--- the answers as the judge's definition computes them
-computed : (judgementOf none ≡ judged (fits 0)) × (judgementOf (drum (framed "01RC 03 00010012")) ≡ judged (refuted 3 3))
-    × (judgementOf (drum (framed "01RC 04 00010012")) ≡ judged (fits 3)) × (judgementOf no-phase ≡ judged (refuted 3 3))
-    × (judgementOf keypad-off ≡ judged (refuted 2 2))
-unfolding bytes check judgementOf recordingOf exchangesIn answerOf passed exchangeLearnt replyLearnt textLearnt silenceKept addressOf locateOf withinLimits marksRight checkRight xorFrom textIn allBetween namesUnit addressIn frameOf digits equal valueFrom requestOf requestFor codeIn formed digitsBetween numbersOf volumeOf flagOf learnOf refusalIn numberBehind numberFor afterRefusal afterAcceptance shown moved narrowed told codeAt becoming advanced start statusFormed statusShown allHold listShown codeShown maskFrom bit rangeAt placeOf placeIn
-computed = (refl, refl, refl, refl, refl)
+-- a recording's row as it is computed, with the answer of the judge's definition
+abbrev Computed : Example → Type 0
+Computed (calls steps) = Holds (calls steps)
+Computed (recording bs n j s) = (length bs ≡ n) × (judgementOf bs ≡ j) × (lineOf j ≡ bytes s ++ newline)
 
--- and they are right by the theorem
-right : (bs : List ℕ) (j : Judgement) → judgementOf bs ≡ j → Demand3 bs j
-right bs j e = subst (Demand3 bs) e (judgement-right bs)
+abbrev AllComputed : List Example → Type 0
+AllComputed [] = Unit {0}
+AllComputed (e ∷ es) = Computed e × AllComputed es
+
+computed : AllComputed table
+unfolding bytes check judgementOf recordingOf exchangesIn answerOf passed exchangeLearnt replyLearnt textLearnt silenceKept addressOf locateOf withinLimits marksRight checkRight xorFrom textIn allBetween namesUnit addressIn frameOf digits equal valueFrom requestOf requestFor codeIn formed digitsBetween numbersOf volumeOf flagOf learnOf refusalIn numberBehind numberFor afterRefusal afterAcceptance shown moved narrowed told codeAt becoming advanced start statusFormed statusShown allHold listShown codeShown maskFrom bit rangeAt placeOf placeIn line.bytes widthIn decimal lineOf
+computed = (controller.worked, ((refl, refl, refl), ((refl, refl, refl), ((refl, refl, refl), ((refl, refl, refl), ((refl, refl, refl), tt))))))
+
+-- and that answer is right by the theorem
+right : (e : Example) → Computed e → Holds e
+right (calls steps) h = h
+right (recording bs n j s) h = (h .0, subst (Demand3 bs) (h .1) (judgement-right bs), h .2)
+
+all-right : (es : List Example) → AllComputed es → AllHold es
+all-right [] h = h
+all-right (e ∷ es) h = (right e (h .0), all-right es (h .1))
 
 pub worked : AllHold table
-worked = (
-  controller.worked,
-  (right _ _ (computed .0), (right _ _ (computed .1), (right _ _ (computed .2), (right _ _ (computed .3), (right _ _ (computed .4), tt))))),
-)
+worked = all-right table computed
