@@ -4,21 +4,15 @@ use mathlib.Core.Bool.{Bool, true, false, not}
 use mathlib.Core.Path.{_≡_, sym, ap, _∙_}
 use mathlib.Core.List.{List, [], _∷_}
 use native.Mathlib.Omega.{arith}
-use lib.ListN.{length, take, drop, length-take, length-drop}
+use lib.ListN.{length, take, drop}
 use borrow.Author.Tests.{eq-eqb, ne-eqb, not-true, not-false}
 use Rattle.command.specs.Word.{equal}
-use Rattle.command.proofs.Parsing.{equal-true}
 use Rattle.knowledge.specs.declared.Knowledge.{Knowledge}
 use Rattle.knowledge.specs.Sets.{maskFrom}
 use Rattle.knowledge.specs.Knowledge.{dead, narrowed}
 use Rattle.showing.specs.declared.Walk.{Walk}
 use Rattle.showing.specs.Shown.{codes, walk, codeShown, codesShown, ended, listShown}
-
--- a word that stands at a place ends within the text
-word-within : (s w : List ℕ) (at : ℕ) → at ≤ length s → equal (take (length w) (drop at s)) w ≡ true → at + length w ≤ length s
-word-within s w at l h =
-    let e : length (take (length w) (drop at s)) ≡ length w = ap length (equal-true (take (length w) (drop at s)) w h) in
-    omega (arith, length-take (length w) (drop at s), length-drop at s)
+use Rattle.showing.proofs.Reading.{word-within}
 
 -- ---- `show_code`
 module _ (s w : List ℕ) (p m n : ℕ) (x : Walk) (r : Knowledge) (b : Bool) (e : b ≡ equal (take (length w) (drop (x .at) s)) w) (l : x .at ≤ length s) where

@@ -25,7 +25,7 @@ use Rattle.knowledge.specs.declared.Knowledge.{Knowledge}
 use Rattle.knowledge.specs.Knowledge.{dead}
 use Rattle.knowledge.proofs.Possible.{Possible, Kept}
 use Rattle.knowledge.proofs.Cut.{dead-none, dead-kept}
-use Rattle.showing.specs.Heard.{numberBehind, label}
+use Rattle.showing.specs.Heard.{numberBehind}
 use Rattle.showing.specs.Shown.{numberShown, factorShown, compositionShown, shown}
 use Rattle.showing.proofs.Numbers.{behind-told, behind-left}
 use Rattle.showing.proofs.Fields.{number-kept, number-told, number-left}

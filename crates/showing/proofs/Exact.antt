@@ -27,7 +27,7 @@ use Rattle.knowledge.specs.declared.Knowledge.{Knowledge}
 use Rattle.knowledge.specs.Knowledge.{dead}
 use Rattle.knowledge.proofs.Possible.{Possible, Kept}
 use Rattle.knowledge.proofs.Cut.{dead-none, dead-kept}
-use Rattle.showing.specs.Heard.{numberBehind, refusalIn, label, rawLabel, parameterLabel}
+use Rattle.showing.specs.Heard.{numberBehind, refusalIn, rawLabel, parameterLabel}
 use Rattle.showing.specs.Shown.{numberShown, okShown, shown}
 use Rattle.showing.proofs.Numbers.{behind-told, behind-left, behind-none}
 use Rattle.showing.proofs.Fields.{number-kept, printed-told, printed-left}
@@ -73,7 +73,7 @@ shows-no-refusal ClearReset r h = refl
 shows-no-refusal ClearChanged r h = refl
 
 -- ---- a parameter's number behind its label
-parameter-spaced : (x y p width n : ℕ) → parameterLabel x y p ++ digits width n ≡ spaced ((x ∷ y ∷ []) ∷ digits 3 p ∷ digits width n ∷ [])
+parameter-spaced : (x y p width n : ℕ) → parameterLabel (x ∷ y ∷ space ∷ []) p ++ digits width n ≡ spaced ((x ∷ y ∷ []) ∷ digits 3 p ∷ digits width n ∷ [])
 parameter-spaced x y p width n = ap (λ (l : List ℕ). x ∷ y ∷ space ∷ l) (append-assoc (digits 3 p) (space ∷ []) (digits width n))
 
 -- ---- an accepted request
@@ -126,9 +126,9 @@ shown-kept Recipe b k kept h = number-kept k recipe kept (omega arith) (numberBe
 shown-kept Composition b k kept h = composition-kept k kept (numberBehind (text "RC ") 2 (take 5 b)) (numberBehind (space ∷ []) 8 (drop 5 b))
 shown-kept Raw b k kept h = number-kept k raw kept (omega arith) (numberBehind rawLabel 8 b) (omega arith)
 shown-kept (Value p) b k kept h =
-    number-kept k (value (placeFor p)) kept (value-held p h) (numberBehind (parameterLabel 0x50 0x56 p) 8 b) (omega arith)
+    number-kept k (value (placeFor p)) kept (value-held p h) (numberBehind (parameterLabel (text "PV ") p) 8 b) (omega arith)
 shown-kept (Level p) b k kept h =
-    number-kept k (level (placeFor p)) kept (level-held p h) (numberBehind (parameterLabel 0x58 0x56 p) 1 b) (omega arith)
+    number-kept k (level (placeFor p)) kept (level-held p h) (numberBehind (parameterLabel (text "XV ") p) 1 b) (omega arith)
 shown-kept (SetValue p n) b k kept h = ok-kept b k kept
 shown-kept (SetLevel p l) b k kept h = ok-kept b k kept
 shown-kept (SelectRecipe n) b k kept h = ok-kept b k kept
@@ -152,10 +152,10 @@ shown-told Recipe b k r kept h p = printed-told k recipe kept (omega arith) r (t
 shown-told Composition b k r kept h p = both-told k kept r b p
 shown-told Raw b k r kept h p = printed-told k raw kept (omega arith) r rawLabel 8 b p
 shown-told (Value p) b k r kept h t =
-    let i = printed-told k (value (placeFor p)) kept (value-held p h) r (parameterLabel 0x50 0x56 p) 8 b t in
+    let i = printed-told k (value (placeFor p)) kept (value-held p h) r (parameterLabel (text "PV ") p) 8 b t in
     (i .0, sym (parameter-spaced 0x50 0x56 p 8 (get (value (placeFor p)) r)) ∙ i .1)
 shown-told (Level p) b k r kept h t =
-    let i = printed-told k (level (placeFor p)) kept (level-held p h) r (parameterLabel 0x58 0x56 p) 1 b t in
+    let i = printed-told k (level (placeFor p)) kept (level-held p h) r (parameterLabel (text "XV ") p) 1 b t in
     (i .0, sym (parameter-spaced 0x58 0x56 p 1 (get (level (placeFor p)) r)) ∙ i .1)
 shown-told (SetValue p n) b k r kept h t = ok-told b k r t
 shown-told (SetLevel p l) b k r kept h t = ok-told b k r t
@@ -181,12 +181,12 @@ own-left Composition k r kept h p = both-left k kept r p
 own-left Raw k r kept h p = printed-left k raw kept (omega arith) r rawLabel 8 (omega arith) (raw-fits r (p .sound)) p
 own-left (Value p) k r kept h t =
     let f : Field = value (placeFor p) in
-    subst (λ (b : List ℕ). Possible (numberShown f (numberBehind (parameterLabel 0x50 0x56 p) 8 b) k) r) (parameter-spaced 0x50 0x56 p 8 (get f r))
-    (printed-left k f kept (value-held p h) r (parameterLabel 0x50 0x56 p) 8 (omega arith) (value-fits r (t .sound) (placeFor p) (value-held p h)) t)
+    subst (λ (b : List ℕ). Possible (numberShown f (numberBehind (parameterLabel (text "PV ") p) 8 b) k) r) (parameter-spaced 0x50 0x56 p 8 (get f r))
+    (printed-left k f kept (value-held p h) r (parameterLabel (text "PV ") p) 8 (omega arith) (value-fits r (t .sound) (placeFor p) (value-held p h)) t)
 own-left (Level p) k r kept h t =
     let f : Field = level (placeFor p) in
-    subst (λ (b : List ℕ). Possible (numberShown f (numberBehind (parameterLabel 0x58 0x56 p) 1 b) k) r) (parameter-spaced 0x58 0x56 p 1 (get f r))
-    (printed-left k f kept (level-held p h) r (parameterLabel 0x58 0x56 p) 1 (omega arith) (level-fits r (t .sound) (placeFor p) (level-held p h)) t)
+    subst (λ (b : List ℕ). Possible (numberShown f (numberBehind (parameterLabel (text "XV ") p) 1 b) k) r) (parameter-spaced 0x58 0x56 p 1 (get f r))
+    (printed-left k f kept (level-held p h) r (parameterLabel (text "XV ") p) 1 (omega arith) (level-fits r (t .sound) (placeFor p) (level-held p h)) t)
 own-left (SetValue p n) k r kept h t = ok-left k r t
 own-left (SetLevel p l) k r kept h t = ok-left k r t
 own-left (SelectRecipe n) k r kept h t = ok-left k r t

@@ -23,7 +23,6 @@ use Rattle.knowledge.specs.Knowledge.{dead, passing}
 use Rattle.knowledge.proofs.Possible.{Possible, Kept}
 use Rattle.knowledge.proofs.Cut.{dead-none, dead-kept, passing-told, passing-left, passing-kept}
 use Rattle.showing.specs.declared.Walk.{Walk}
-use Rattle.showing.specs.Heard.{label}
 use Rattle.showing.specs.Shown.{Code, codes, walk, codeShown, codesShown, ended, listShown}
 use Rattle.showing.proofs.Fields.{isSmall, is-small}
 

@@ -23,7 +23,7 @@ use Rattle.command.specs.Request.{placeFor}
 use Rattle.knowledge.specs.declared.Knowledge.{Knowledge}
 use Rattle.knowledge.specs.Sets.{maskFrom}
 use Rattle.knowledge.specs.Knowledge.{dead, narrowed, told}
-use Rattle.showing.specs.Heard.{numberBehind, label, parameterLabel}
+use Rattle.showing.specs.Heard.{numberBehind, parameterLabel}
 use Rattle.showing.specs.Shown.{toldBy, narrowedBy, compositionShown, okShown, shown}
 use Rattle.showing.proofs.Reading.{behind-length}
 
@@ -131,20 +131,20 @@ module _ (s : List ℕ) (k r : Knowledge) (q : Request) where
     unfolding shown
     raw-shown e z h = shown-as request.Raw e (h ∙ ap (λ (x : Digits). toldBy 10 (range 0 99999999) x k) z)
 
-    module _ (p i : ℕ) (l : List ℕ) (y : i ≡ 2 * placeFor p) where
-      pub value-shown : (j : ℕ) (g : Range) → q ≡ request.Value p → l ≡ parameterLabel 0x50 0x56 p → d ≡ numberBehind l 8 s → j ≡ placeFor p → g ≡ rangeAt j
-          → r ≡ toldBy (12 + i) g d k → r ≡ shown q s k
+    module _ (p i : ℕ) (y : i ≡ 2 * placeFor p) where
+      pub value-shown : (j : ℕ) (g : Range) → q ≡ request.Value p → d ≡ numberBehind (parameterLabel (0x50 ∷ 0x56 ∷ 0x20 ∷ []) p) 8 s → j ≡ placeFor p
+          → g ≡ rangeAt j → r ≡ toldBy (12 + i) g d k → r ≡ shown q s k
       unfolding shown
-      value-shown j g e x z t u h =
+      value-shown j g e z t u h =
           shown-as (request.Value p) e
           (h ∙ (ap (λ (n : ℕ). toldBy (12 + n) g d k) y ∙ (ap (λ (n : Range). toldBy (12 + 2 * placeFor p) n d k) (u ∙ ap rangeAt t)
-          ∙ ap (λ (n : Digits). toldBy (12 + 2 * placeFor p) (rangeAt (placeFor p)) n k) (z ∙ ap (λ (w : List ℕ). numberBehind w 8 s) x))))
+          ∙ ap (λ (n : Digits). toldBy (12 + 2 * placeFor p) (rangeAt (placeFor p)) n k) z)))
 
-      pub level-shown : q ≡ request.Level p → l ≡ parameterLabel 0x58 0x56 p → d ≡ numberBehind l 1 s → r ≡ narrowedBy (13 + i) (range 0 3) d k → r ≡ shown q s k
+      pub level-shown : q ≡ request.Level p → d ≡ numberBehind (parameterLabel (0x58 ∷ 0x56 ∷ 0x20 ∷ []) p) 1 s → r ≡ narrowedBy (13 + i) (range 0 3) d k
+          → r ≡ shown q s k
       unfolding shown
-      level-shown e x z h =
+      level-shown e z h =
           shown-as (request.Level p) e
-          (h ∙ (ap (λ (n : ℕ). narrowedBy (13 + n) (range 0 3) d k) y
-          ∙ ap (λ (n : Digits). narrowedBy (13 + 2 * placeFor p) (range 0 3) n k) (z ∙ ap (λ (w : List ℕ). numberBehind w 1 s) x)))
+          (h ∙ (ap (λ (n : ℕ). narrowedBy (13 + n) (range 0 3) d k) y ∙ ap (λ (n : Digits). narrowedBy (13 + 2 * placeFor p) (range 0 3) n k) z))
 
 pub ruleset replies = (shown-as, number-shown, recipe-shown, raw-shown, value-shown, level-shown)

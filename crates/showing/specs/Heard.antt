@@ -19,15 +19,12 @@ numberBehind w width b = pick (eqb (length b) (length w + width) && equal (take 
 unfoldable pub refusalIn : List ℕ → Digits
 refusalIn b = numberBehind (text "NO") 2 b
 
--- the words before the numbers: "TN ", "RR ", "RC ", "RT R ", "PV ppp ", "XV ppp "
-abbrev pub label : ℕ → ℕ → List ℕ
-label x y = x ∷ y ∷ space ∷ []
-
+-- the words before the numbers of RT, PV and XV: "RT R ", "PV ppp ", "XV ppp "
 abbrev pub rawLabel : List ℕ
 rawLabel = text "RT R "
 
-abbrev pub parameterLabel : ℕ → ℕ → ℕ → List ℕ
-parameterLabel x y p = label x y ++ (digits 3 p ++ (space ∷ []))
+abbrev pub parameterLabel : List ℕ → ℕ → List ℕ
+parameterLabel w p = w ++ (digits 3 p ++ (space ∷ []))
 
 -- ---- EQ: six characters, of which some bits are never set
 abbrev pub characterAt : List ℕ → ℕ → ℕ

@@ -23,7 +23,7 @@ use Rattle.knowledge.specs.declared.Knowledge.{Knowledge}
 use Rattle.knowledge.specs.Sets.{Kind, several, single, kindOf, maskOf, maskIn}
 use Rattle.knowledge.specs.Knowledge.{dead, narrowed, told, passing}
 use Rattle.showing.specs.declared.Walk.{Walk}
-use Rattle.showing.specs.Heard.{numberBehind, label, rawLabel, parameterLabel, characterAt, lit, statusFormed}
+use Rattle.showing.specs.Heard.{numberBehind, rawLabel, parameterLabel, characterAt, lit, statusFormed}
 
 -- ---- tests of one field each
 pub record Test : Type 0 where
@@ -156,8 +156,8 @@ shown Number b k = numberShown number (numberBehind (text "TN ") 4 b) k
 shown Recipe b k = numberShown recipe (numberBehind (text "RR ") 2 b) k
 shown Composition b k = compositionShown (numberBehind (text "RC ") 2 (take 5 b)) (numberBehind (space ∷ []) 8 (drop 5 b)) k
 shown Raw b k = numberShown raw (numberBehind rawLabel 8 b) k
-shown (Value p) b k = numberShown (value (placeFor p)) (numberBehind (parameterLabel 0x50 0x56 p) 8 b) k
-shown (Level p) b k = numberShown (level (placeFor p)) (numberBehind (parameterLabel 0x58 0x56 p) 1 b) k
+shown (Value p) b k = numberShown (value (placeFor p)) (numberBehind (parameterLabel (text "PV ") p) 8 b) k
+shown (Level p) b k = numberShown (level (placeFor p)) (numberBehind (parameterLabel (text "XV ") p) 1 b) k
 shown (SetValue p n) b k = okShown b k
 shown (SetLevel p l) b k = okShown b k
 shown (SelectRecipe n) b k = okShown b k

@@ -31,7 +31,7 @@ ghost use lib.Dec.{eqb};
 ghost use lib.ListN.{length, take, drop};
 ghost use Rattle.base.specs.Test.{pick, between};
 ghost use Rattle.state.specs.Parameter.{parameterCount};
-ghost use Rattle.command.specs.Word.{equal};
+ghost use Rattle.command.specs.Word.{digits, equal};
 ghost use Rattle.command.specs.Request.{placeFor};
 ghost use Rattle.knowledge.specs.Sets.{maskOf};
 ghost use Rattle.knowledge.specs.Knowledge.{narrowed};
@@ -143,20 +143,32 @@ fn show_composition(k: Knowledge, recipe: Digits, factor: Digits) -> Knowledge
     )
 }
 
-// "PV ppp " or "XV ppp ", by its first letter.
-fn parameter_label(letter: u8, code: u16) -> [u8; 7]
-    ensures { λ w. ⌜ w ≡ parameterLabel letter 0x56 code ⌝ }
+// The three digits of a parameter's code.
+fn code_digits(code: u16) -> [u8; 3]
+    ensures { λ w. ⌜ w ≡ digits 3 code ⌝ }
 {
     let n = code as u32;
     [
-        letter,
-        b'V',
-        b' ',
         (0x30 + n / 100 % 10) as u8,
         (0x30 + n / 10 % 10) as u8,
         (0x30 + n % 10) as u8,
-        b' ',
     ]
+}
+
+// A number of so many digits behind a word, a parameter's code and a space.
+fn parameter_number(s: &[u8], word: &[u8], code: u16, width: usize) -> Digits
+    requires { ⌜ (length (now word) ≤ 8) × (width ≤ 8) ⌝ }
+    ensures { λ d. ⌜ d ≡ numberBehind (parameterLabel (now (word .entry)) code) width (now (s .entry)) ⌝ }
+{
+    if !stands(s, 0, word) {
+        return Digits::Nothing;
+    }
+    let n = word.len();
+    if !stands(s, n, &code_digits(code)) {
+        return Digits::Nothing;
+    }
+    let behind = n + 3;
+    number_behind(&s[behind..], b" ", width)
 }
 
 // The bit of this weight is set.
@@ -364,7 +376,7 @@ pub fn show(k: Knowledge, request: Request, s: &[u8]) -> Knowledge
             show_number(k, RAW, range, number_behind(s, b"RT R ", 8))
         }
         Request::Value(code) => {
-            let shown = number_behind(s, &parameter_label(b'P', code), 8);
+            let shown = parameter_number(s, b"PV ", code, 8);
             show_number(
                 k,
                 VALUES + offset(code),
@@ -373,7 +385,7 @@ pub fn show(k: Knowledge, request: Request, s: &[u8]) -> Knowledge
             )
         }
         Request::Level(code) => {
-            let shown = number_behind(s, &parameter_label(b'X', code), 1);
+            let shown = parameter_number(s, b"XV ", code, 1);
             let range = Range { low: 0, high: 3 };
             show_small(k, LEVELS + offset(code), range, shown)
         }

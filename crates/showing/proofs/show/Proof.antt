@@ -80,14 +80,11 @@ show-number-requires-2 c κs = search needs
 enum-known-request : tie.Need-enum-known-request
 enum-known-request c = search needs
 
-parameter-label-requires : tie.Need-parameter-label-requires
-parameter-label-requires c κs = search needs
+slice-aggregate-parameter-number : tie.Need-slice-aggregate-parameter-number
+slice-aggregate-parameter-number c = search needs
 
-slice-aggregate-number-behind-4 : tie.Need-slice-aggregate-number-behind-4
-slice-aggregate-number-behind-4 c = search needs
-
-number-behind-requires-4 : tie.Need-number-behind-requires-4
-number-behind-requires-4 c κs = search needs
+parameter-number-requires : tie.Need-parameter-number-requires
+parameter-number-requires c κs = search needs
 
 offset-requires : tie.Need-offset-requires
 offset-requires c κs = search needs
@@ -107,14 +104,11 @@ show-number-requires-3 c κs = search needs
 enum-known-request-2 : tie.Need-enum-known-request-2
 enum-known-request-2 c = search needs
 
-parameter-label-requires-2 : tie.Need-parameter-label-requires-2
-parameter-label-requires-2 c κs = search needs
+slice-aggregate-parameter-number-2 : tie.Need-slice-aggregate-parameter-number-2
+slice-aggregate-parameter-number-2 c = search needs
 
-slice-aggregate-number-behind-5 : tie.Need-slice-aggregate-number-behind-5
-slice-aggregate-number-behind-5 c = search needs
-
-number-behind-requires-5 : tie.Need-number-behind-requires-5
-number-behind-requires-5 c κs = search needs
+parameter-number-requires-2 : tie.Need-parameter-number-requires-2
+parameter-number-requires-2 c κs = search needs
 
 offset-requires-2 : tie.Need-offset-requires-2
 offset-requires-2 c κs = search needs
@@ -288,18 +282,16 @@ show-spec =
     number-behind-requires-3
     show-number-requires-2
     enum-known-request
-    parameter-label-requires
-    slice-aggregate-number-behind-4
-    number-behind-requires-4
+    slice-aggregate-parameter-number
+    parameter-number-requires
     offset-requires
     add-show-number
     place-requires
     range-at-requires
     show-number-requires-3
     enum-known-request-2
-    parameter-label-requires-2
-    slice-aggregate-number-behind-5
-    number-behind-requires-5
+    slice-aggregate-parameter-number-2
+    parameter-number-requires-2
     offset-requires-2
     add-show-small
     show-small-requires-2
