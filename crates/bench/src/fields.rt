@@ -1,127 +1,128 @@
-// The bench record, records made of it, and a record's fields as text.
-use crate::print::field;
-use crate::print::number;
-use crate::print::say;
+// The bench record, what a line changes in a record, and its fields as text.
+use crate::print::put_character;
+use crate::print::put_field;
+use crate::print::put_number;
+use crate::words::at;
+use crate::words::last_number;
+use state::Event;
 use state::PARAMETERS;
 use state::Phase;
-use state::Place;
 use state::Record;
 
-// Document 01's bench record.
-pub(crate) fn bench() -> Record {
-    let mut r = stored::low_record();
-    r.address = 1;
-    r.access = 2;
-    r.recipe = 3;
-    r.number = 9999;
-    r.levels = [1u8; PARAMETERS];
-    with_level(with_value(r, 32, 10012), 807, 3)
+// ---- the record
+
+fn phase_of(b: u8) -> Phase {
+    match b {
+        b'0' => Phase::Idle,
+        b'1' => Phase::Set,
+        b'2' => Phase::Running,
+        b'3' => Phase::Stopped,
+        _ => Phase::Done,
+    }
 }
 
-// ---- a record with one field changed
+// The place of 032.
+const FACTOR_OF_THREE: usize = 7;
 
-pub(crate) fn with_value(mut r: Record, code: u16, value: u32) -> Record {
-    let Place::At(i) = state::place_of(code) else {
-        return r;
-    };
-    if i < PARAMETERS {
-        r.values[i] = value;
+// The place of 807.
+const PULSES_PER_UNIT: usize = 30;
+
+// The bench record with the phase and the flags that a line gives.
+pub(crate) fn bench(line: &[u8]) -> Record {
+    let low = stored::low_record();
+    let mut values = low.values;
+    let mut levels = [1; PARAMETERS];
+    values[FACTOR_OF_THREE] = 10012;
+    levels[PULSES_PER_UNIT] = 3;
+    Record {
+        address: 1,
+        access: 2,
+        phase: phase_of(at(line, 2)),
+        keypad: at(line, 3) == b'1',
+        flow: at(line, 4) == b'1',
+        changed: at(line, 5) == b'1',
+        reset: at(line, 6) == b'1',
+        powerfail: at(line, 7) == b'1',
+        recipe: 3,
+        preset: 0,
+        raw: 0,
+        number: 9999,
+        values: values,
+        levels: levels,
+    }
+}
+
+pub(crate) fn small(n: u32) -> u8 {
+    (n % 256) as u8
+}
+
+// The record with the field that a line names, told by the second letter of its name.
+pub(crate) fn set(mut r: Record, line: &[u8]) -> Record {
+    let n = last_number(line);
+    match at(line, 5) {
+        b'd' => {
+            r.address = small(n);
+        }
+        b'c' => {
+            r.access = small(n);
+        }
+        b'e' => {
+            r.recipe = small(n);
+        }
+        b'a' => {
+            r.raw = n;
+        }
+        _ => {
+            r.values[FACTOR_OF_THREE] = n;
+        }
     }
     r
 }
 
-fn with_level(mut r: Record, code: u16, level: u8) -> Record {
-    let Place::At(i) = state::place_of(code) else {
-        return r;
-    };
-    if i < PARAMETERS {
-        r.levels[i] = level;
+// ---- what the panel does
+
+fn keypad_in(line: &[u8]) -> Event {
+    if at(line, 14) == b'n' {
+        return Event::KeypadOn;
     }
-    r
+    Event::KeypadOff
 }
 
-pub(crate) fn with_address(mut r: Record, address: u8) -> Record {
-    r.address = address;
-    r
-}
-
-pub(crate) fn with_raw(mut r: Record, raw: u32) -> Record {
-    r.raw = raw;
-    r
-}
-
-pub(crate) fn with_changed(mut r: Record) -> Record {
-    r.changed = true;
-    r
+// The event that a line names, told by the second letter of its name.
+pub(crate) fn event_in(line: &[u8]) -> Event {
+    match at(line, 7) {
+        b'u' => Event::Pulses((last_number(line) % 65536) as u16),
+        b't' => Event::Still,
+        b'o' => Event::PowerBack,
+        _ => keypad_in(line),
+    }
 }
 
 // ---- fields as text
 
-// A name, and on or off.
-pub(crate) fn flag(name: &[u8], on: bool) {
-    say(name);
-    if on {
-        say(b"on");
-        return;
-    }
-    say(b"off");
+fn put_flags(r: Record) {
+    put_number(r.keypad as u64);
+    put_number(r.flow as u64);
+    put_number(r.changed as u64);
+    put_number(r.reset as u64);
+    put_number(r.powerfail as u64);
 }
 
-pub(crate) fn phase(p: Phase) {
-    match p {
-        Phase::Idle => say(b"Idle"),
-        Phase::Set => say(b"Set"),
-        Phase::Running => say(b"Running"),
-        Phase::Stopped => say(b"Stopped"),
-        Phase::Done => say(b"Done"),
-    }
+fn put_fields(r: Record) {
+    put_field(b'@', r.address as u64);
+    put_field(b'A', r.access as u64);
+    put_field(b'R', r.recipe as u64);
+    put_field(b'P', r.preset as u64);
+    put_field(b'W', r.raw as u64);
+    put_field(b'N', r.number as u64);
 }
 
-// All fields but the parameters', in a line.
-pub(crate) fn scalars(r: Record) {
-    field(b"address ", r.address as u64);
-    field(b", access ", r.access as u64);
-    say(b", phase ");
-    let p = r.phase;
-    phase(p);
-    flags(r);
-    field(b", recipe ", r.recipe as u64);
-    field(b", preset ", r.preset as u64);
-    field(b", raw ", r.raw as u64);
-    field(b", number ", r.number as u64);
-    say(b"\n");
-}
-
-fn flags(r: Record) {
-    flag(b", keypad ", r.keypad);
-    flag(b", flow ", r.flow);
-    flag(b", changed ", r.changed);
-    flag(b", batch reset ", r.reset);
-    flag(b", power fail ", r.powerfail);
-}
-
-// The code, the value and the level of the parameter at a place, in a line.
-pub(crate) fn parameter(r: Record, place: usize) {
-    if place < PARAMETERS {
-        code(state::code_at(place));
-        field(b": value ", r.values[place] as u64);
-        field(b", level ", r.levels[place] as u64);
-        say(b"\n");
-    }
-}
-
-// Three digits.
-fn code(c: u16) {
-    if c < 100 {
-        say(b"0");
-    }
-    number(c as u64);
-}
-
-pub(crate) fn parameters(r: Record) {
-    let mut i = 0;
-    while i < PARAMETERS {
-        parameter(r, i);
-        i += 1;
-    }
+// Writes the record's phase and flags, then its fields but the parameters, and gives it back.
+pub(crate) fn shown(r: Record) -> Record {
+    put_character(b' ');
+    let phase = r.phase;
+    put_number(state::phase_number(phase) as u64);
+    put_flags(r);
+    put_fields(r);
+    r
 }

@@ -2,41 +2,37 @@
 use libc::STDOUT_FILENO;
 
 // The bytes as they are.
-pub(crate) fn say(text: &[u8]) {
-    io::write_all(STDOUT_FILENO, text);
+pub(crate) fn put(s: &[u8]) {
+    io::write_all(STDOUT_FILENO, s);
 }
 
-// A title's line.
-pub(crate) fn title(text: &[u8]) {
-    say(b"== ");
-    say(text);
-    say(b"\n");
+pub(crate) fn put_character(c: u8) {
+    let one = [c];
+    put(&one);
 }
 
 // A number in decimal.
-pub(crate) fn number(n: u64) {
+pub(crate) fn put_number(n: u64) {
     io::print_decimal(STDOUT_FILENO, n);
 }
 
-// A space and a byte's two hexadecimal digits.
-fn byte(b: u8) {
-    say(b" ");
-    io::print_hex(STDOUT_FILENO, b as u64, 2);
+// A space, a letter and a number.
+pub(crate) fn put_field(letter: u8, n: u64) {
+    put_character(b' ');
+    put_character(letter);
+    put_number(n);
 }
 
-// The bytes from a place up to another, as far as there are any.
-pub(crate) fn hex(bytes: &[u8], from: usize, end: usize) {
-    let mut i = from;
-    while i < end {
-        if i < bytes.len() {
-            byte(bytes[i]);
-        }
+// A space and a byte's two hexadecimal digits.
+fn put_byte(byte: u8) {
+    put_character(b' ');
+    io::print_hex(STDOUT_FILENO, byte as u64, 2);
+}
+
+pub(crate) fn put_hex(s: &[u8]) {
+    let mut i = 0;
+    while i < s.len() {
+        put_byte(s[i]);
         i += 1;
     }
-}
-
-// A name and a number.
-pub(crate) fn field(name: &[u8], n: u64) {
-    say(name);
-    number(n);
 }
