@@ -13,7 +13,8 @@ use lib.ListN.{length, take, drop, getD}
 use lib.Seq.{drop-at}
 use borrow.Author.Tests.{ltb-true, ne-eqb}
 use Rattle.base.specs.Test.{unless, allBetween}
-use Rattle.base.proofs.Tests.{and-left, and-right, below-or-not}
+use Rattle.base.proofs.Tests.{by-test, and-left, and-right, below-or-not}
+use Rattle.base.specs.Text.{text}
 use Rattle.state.specs.declared.Record.{Record}
 use Rattle.state.specs.Field.{address, keypad, flow, get}
 use Rattle.state.specs.Valid.{valid}
@@ -24,13 +25,13 @@ use Rattle.frame.specs.Frame.{allText, namesUnit, addressIn, frameOf, textIn, w
 use Rattle.frame.proofs.Laws.{over-take}
 use Rattle.frame.proofs.RoundTrip.{frame-located}
 use Rattle.command.specs.Word.{digits, valueOf}
-use Rattle.command.specs.Status.{inPhases, isOn, weight, first, statusCharacters}
-use Rattle.command.specs.Commands.{Command, codeIn, commands, rowOf, word}
+use Rattle.command.specs.Status.{inPhases, isOn, first, statusCharacters}
+use Rattle.command.specs.Commands.{Command, codeIn, commands, rowOf}
 use Rattle.command.specs.Refusals.{Row, refusals, rowNumber, applies}
 use Rattle.command.specs.Answer.{Verdict, NO, accepted, verdict, replyFor, replyText}
 use Rattle.command.proofs.Parsing.{digits-length, value-digits}
-use Rattle.command.proofs.Tables.{by-test, FirstAt, noRow}
-use Rattle.reply.proofs.Laws.{Text, text-wider, text-joined, text-digits, text-labelled}
+use Rattle.command.proofs.Tables.{FirstAt, noRow}
+use Rattle.reply.proofs.Laws.{weight-high, Text, text-wider, text-joined, text-digits, text-labelled}
 use Rattle.controller.specs.Call.{Outcome, callOf}
 use Rattle.controller.proofs.Theorems.{reply-legal, is-answered, refusal-keeps, no-by-row, row-goes-out, accepted-by-none}
 
@@ -123,10 +124,6 @@ heard-exactly k r q o = subst (λ (n : ℕ). n ≡ 0 ↔ NoneFails (tests k r q 
 
 -- ---- no accepted reply begins with "N"
 
-weight-high : (w : ℕ) (b : Bool) → weight w b ≤ w
-weight-high w true = omega arith
-weight-high w false = omega arith
-
 -- EQ's first character is 0x3f at most
 status-begins : (r : Record) → eqb (0x30 + first r) 0x4e ≡ false
 status-begins r =
@@ -174,7 +171,7 @@ number-below (row ∷ rows) (suc i) h = number-below rows i (and-right (ltb (row
 
 -- the frame of the address digits, "NO" and two digits
 abbrev pub noFrame : Kind → Record → ℕ → List ℕ
-noFrame k r n = frameOf k (digits 2 (get address r) ++ (word 0x4e 0x4f ++ digits 2 n))
+noFrame k r n = frameOf k (digits 2 (get address r) ++ (text "NO" ++ digits 2 n))
 
 -- what the call put at the start of the buffer
 abbrev pub sent : Kind → Record → List ℕ → List ℕ → List ℕ
@@ -200,10 +197,10 @@ reply-verdict t r n l = go (verdict t r) refl
         e ∙ ap NO (sym (value-digits 2 m (row-below (no-by-row t r m e))) ∙ (same ∙ value-digits 2 n l))
     go accepted e p = not-both (notN (replyFor accepted t r)) (row-not-N (codeIn t) commands t r (commands-not-N t r)) (ap notN p)
 
-no-legal : (a n : ℕ) → Text 4 29 (digits 2 a ++ (word 0x4e 0x4f ++ digits 2 n))
+no-legal : (a n : ℕ) → Text 4 29 (digits 2 a ++ (text "NO" ++ digits 2 n))
 unfolding allBetween
 no-legal a n =
-    text-wider _ _ _ _ _ (omega arith) (omega arith) (text-joined _ _ _ _ (digits 2 a) _ (text-digits 2 a) (text-labelled (word 0x4e 0x4f) 2 n refl))
+    text-wider _ _ _ _ _ (omega arith) (omega arith) (text-joined _ _ _ _ (digits 2 a) _ (text-digits 2 a) (text-labelled (text "NO") 2 n refl))
 
 -- a frame determines its text
 frame-same : (k : Kind) (s t : List ℕ) → Text 4 29 s → Text 4 29 t → frameOf k s ≡ frameOf k t → s ≡ t

@@ -1,13 +1,13 @@
 -- Document 01, "Worked on the bench record": the starred examples of the controller as whole frames, computed on the definition
 -- that the promise of `call` cites. One table under one statement. Assumes nothing.
 use Prim.Native.Nat.{ℕ}
-use Prim.Native.Char.{code}
-use Prim.Native.String.{String, [] as end, _∷_ as _then_}
+use Prim.Native.String.{String}
 use mathlib.Core.Path.{_≡_, refl}
 use mathlib.Core.List.{List, [], _∷_, _++_, map}
 use lib.ListN.{length, take, replicate}
 use lib.Bits.{bitXor}
 use Rattle.base.specs.Test.{allBetween}
+use Rattle.base.specs.Text.{text}
 use Rattle.state.specs.declared.Record.{Record}
 use Rattle.state.specs.Parameter.{placeIn, placeOf, rangeAt}
 use Rattle.state.specs.Field.{phaseOf, put}
@@ -29,17 +29,13 @@ pub record Step : Type 0 where
   pub reply : List ℕ
 
 -- ---- the frame of a quoted text, in words of its own and not those of the definitions that are computed below
-unfoldable pub bytes : String → List ℕ
-bytes end = []
-bytes (c then s) = code c ∷ bytes s
-
 -- the exclusive or of the bytes and 03
 unfoldable pub check : List ℕ → ℕ
 check [] = 0x03
 check (x ∷ xs) = bitXor x (check xs)
 
 abbrev pub framed : String → List ℕ
-framed s = 0x02 ∷ (bytes s ++ (0x03 ∷ check (bytes s) ∷ 0x7f ∷ []))
+framed s = 0x02 ∷ (text s ++ (0x03 ∷ check (text s) ∷ 0x7f ∷ []))
 
 -- ---- the frames that document 01 prints
 abbrev pub EQ-frame : List ℕ
@@ -53,7 +49,7 @@ abbrev pub OK-frame : List ℕ
 OK-frame = 0x02 ∷ 0x30 ∷ 0x31 ∷ 0x4f ∷ 0x4b ∷ 0x03 ∷ 0x06 ∷ 0x7f ∷ []
 
 pub framing : framed "01EQ" ∷ framed "01000000" ∷ framed "01OK" ∷ [] ≡ EQ-frame ∷ status-frame ∷ OK-frame ∷ []
-unfolding bytes check
+unfolding check
 framing = refl
 
 -- ---- the examples, in the order of document 01
@@ -94,5 +90,5 @@ replies r [] = []
 replies r (q ∷ qs) = heard (called r q) ∷ replies (called r q .after) qs
 
 pub worked : replies bench (map (λ s. s .request) table) ≡ map (λ s. (length (s .reply), s .reply)) table
-unfolding replies bytes check bench callOf valid allIn rangeAt placeOf placeIn withinLimits marksRight checkRight xorFrom textIn allBetween namesUnit addressIn frameOf over replyText recordAfter verdict firstOf codeIn formed digitsBetween valueFrom equal parameterIn commands.placeIn numberIn secondIn rowOf digits statusCharacters codesOn applied put phaseOf
+unfolding replies check bench callOf valid allIn rangeAt placeOf placeIn withinLimits marksRight checkRight xorFrom textIn allBetween namesUnit addressIn frameOf over replyText recordAfter verdict firstOf codeIn formed digitsBetween valueFrom equal parameterIn commands.placeIn numberIn secondIn rowOf digits statusCharacters codesOn applied put phaseOf
 worked = refl

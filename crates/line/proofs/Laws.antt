@@ -23,7 +23,7 @@ use Rattle.recording.specs.declared.Refusal.{Refusal}
 use Rattle.judging.specs.Judge.{judgementAs}
 use Rattle.judging.specs.declared.Judgement.{Judgement}
 use Rattle.judging.specs.declared.Judgement.the-variants as judgement
-use Rattle.line.specs.Line.{bytes, widthIn, decimal, newline, lineOf, lineWritten}
+use Rattle.line.specs.Line.{widthIn, decimal, newline, lineOf, lineWritten}
 
 -- ---- how wide a number is
 width-more : (k n : ℕ) → 10 ≤ n → widthIn (suc k) n ≡ suc (widthIn k (n / 10))
@@ -117,14 +117,14 @@ written j n o o₁ h a =
 
 pub written-fits : (a : Judgement) (m n : ℕ) (o o₁ : List ℕ) → 64 ≤ length o → a ≡ judgement.Fits n
     → Laid 0 (fitsWord ++ (decimal n ++ newline)) o m o₁ → (m, o₁) ≡ lineWritten (judgementAs a) o
-unfolding lineOf bytes
+unfolding lineOf
 written-fits a m n o o₁ h e f =
     let w : (m, o₁) ≡ lineWritten (judged (fits n)) o = written (judged (fits n)) m o o₁ h f in
     w ∙ ap (λ (y : Judgement). lineWritten (judgementAs y) o) (sym e)
 
 pub written-refuted : (a : Judgement) (b i m n : ℕ) (o o₁ o₂ : List ℕ) → 64 ≤ length o → a ≡ judgement.Refuted i n
     → Laid 0 (refutedWord ++ decimal i) o b o₁ → Laid b (ofWord ++ (decimal n ++ newline)) o₁ m o₂ → (m, o₂) ≡ lineWritten (judgementAs a) o
-unfolding lineOf bytes
+unfolding lineOf
 written-refuted a b i m n o o₁ o₂ h e f g =
     let t : List ℕ = ofWord ++ (decimal n ++ newline) in
     let l : Laid 0 ((refutedWord ++ decimal i) ++ t) o m o₂ = joined 0 b m (refutedWord ++ decimal i) t o o₁ o₂ f g in
@@ -135,7 +135,7 @@ written-refuted a b i m n o o₁ o₂ h e f g =
 
 pub written-refused : (a : Judgement) (k : Refusal) (m n : ℕ) (o o₁ : List ℕ) → 64 ≤ length o → a ≡ judgement.Refused k → n ≡ refusalNumber k
     → Laid 0 (refusedWord ++ (decimal n ++ newline)) o m o₁ → (m, o₁) ≡ lineWritten (judgementAs a) o
-unfolding lineOf bytes
+unfolding lineOf
 written-refused a k m n o o₁ h e i f =
     let w : (m, o₁) ≡ lineWritten (refused n) o = written (refused n) m o o₁ h f in
     w ∙ ap (λ (y : ℕ). lineWritten (refused y) o) i ∙ ap (λ (y : Judgement). lineWritten (judgementAs y) o) (sym e)

@@ -7,8 +7,9 @@ use mathlib.Core.Path.{_≡_, refl, subst}
 use mathlib.Core.List.{List, [], _∷_, _++_, map}
 use lib.ListN.{length}
 use Rattle.command.specs.Bench.{bench}
+use Rattle.base.specs.Text.{text}
 use Rattle.controller.specs.Worked as controller
-use Rattle.controller.specs.Worked.{Step, EQ-frame, status-frame, OK-frame, framed, _gets_, replies, bytes, check}
+use Rattle.controller.specs.Worked.{Step, EQ-frame, status-frame, OK-frame, framed, _gets_, replies, check}
 use Rattle.recording.specs.Replay.{fits, refuted}
 use Rattle.recording.specs.Statement.{Judgement, judged, Demand3}
 use Rattle.judging.specs.Judge.{judgementOf, exchangeLearnt, replyLearnt, textLearnt, silenceKept}
@@ -38,7 +39,7 @@ pub data Example : Type 0 where
 
 abbrev pub Holds : Example → Type 0
 Holds (calls steps) = replies bench (map (λ s. s .request) steps) ≡ map (λ s. (length (s .reply), s .reply)) steps
-Holds (recording bs n j s) = (length bs ≡ n) × Demand3 bs j × (lineOf j ≡ bytes s ++ newline)
+Holds (recording bs n j s) = (length bs ≡ n) × Demand3 bs j × (lineOf j ≡ text s ++ newline)
 
 abbrev pub AllHold : List Example → Type 0
 AllHold [] = Unit {0}
@@ -88,14 +89,14 @@ table =
 -- a recording's row as it is computed, with the answer of the judge's definition
 abbrev Computed : Example → Type 0
 Computed (calls steps) = Holds (calls steps)
-Computed (recording bs n j s) = (length bs ≡ n) × (judgementOf bs ≡ j) × (lineOf j ≡ bytes s ++ newline)
+Computed (recording bs n j s) = (length bs ≡ n) × (judgementOf bs ≡ j) × (lineOf j ≡ text s ++ newline)
 
 abbrev AllComputed : List Example → Type 0
 AllComputed [] = Unit {0}
 AllComputed (e ∷ es) = Computed e × AllComputed es
 
 computed : AllComputed table
-unfolding bytes check judgementOf recordingOf exchangesIn answerOf passed exchangeLearnt replyLearnt textLearnt silenceKept addressOf locateOf withinLimits marksRight checkRight xorFrom textIn allBetween namesUnit addressIn frameOf digits equal valueFrom requestOf requestFor codeIn formed digitsBetween numbersOf volumeOf flagOf learnOf refusalIn numberBehind numberFor afterRefusal afterAcceptance shown moved narrowed told codeAt becoming advanced start statusFormed statusShown allHold listShown codeShown maskFrom bit rangeAt placeOf placeIn line.bytes widthIn decimal lineOf
+unfolding check judgementOf recordingOf exchangesIn answerOf passed exchangeLearnt replyLearnt textLearnt silenceKept addressOf locateOf withinLimits marksRight checkRight xorFrom textIn allBetween namesUnit addressIn frameOf digits equal valueFrom requestOf requestFor codeIn formed digitsBetween numbersOf volumeOf flagOf learnOf refusalIn numberBehind numberFor afterRefusal afterAcceptance shown moved narrowed told codeAt becoming advanced start statusFormed statusShown allHold listShown codeShown maskFrom bit rangeAt placeOf placeIn widthIn decimal lineOf
 computed = (controller.worked, ((refl, refl, refl), ((refl, refl, refl), ((refl, refl, refl), ((refl, refl, refl), ((refl, refl, refl), tt))))))
 
 -- and that answer is right by the theorem

@@ -26,7 +26,7 @@ use Rattle.command.specs.Answer.{Verdict, NO, firstOf, verdict, replyFor, reply
 use Rattle.command.specs.Answer as answer
 use Rattle.command.specs.Bench.{bench}
 use Rattle.controller.specs.Call.{Outcome, callOf}
-use Rattle.controller.specs.Worked.{bytes, check, framed}
+use Rattle.controller.specs.Worked.{check, framed}
 use Rattle.controller.proofs.ReadBack.{AnswersAt, status-read}
 use Rattle.controller.proofs.Theorems.{Silenced, Answered, every-input, accepted-by-none, recipe-after-recipe}
 use Rattle.recording.specs.Form.{Exchange, Recording, J, exchangesIn, recordingOf}
@@ -69,7 +69,7 @@ abbrev pub level-raised : List Exchange
 level-raised = (framed "01XC 011 3" gets framed "01OK") ∷ []
 
 pub some-fit : Fits 1 2 recipe-kept × Fits 1 2 (take 1 recipe-lost) × Fits 1 2 (drop 1 recipe-lost) × Fits 1 2 silences × Fits 1 3 level-raised
-unfolding bytes check bench callOf valid allIn rangeAt placeOf placeIn withinLimits marksRight checkRight xorFrom textIn allBetween namesUnit addressIn frameOf over replyText recordAfter verdict firstOf codeIn formed digitsBetween valueFrom parameterIn commands.placeIn numberIn secondIn rowOf digits applied put
+unfolding check bench callOf valid allIn rangeAt placeOf placeIn withinLimits marksRight checkRight xorFrom textIn allBetween namesUnit addressIn frameOf over replyText recordAfter verdict firstOf codeIn formed digitsBetween valueFrom parameterIn commands.placeIn numberIn secondIn rowOf digits applied put
 some-fit = (
   fit-by bench recipe-kept refl ((refl, refl), ((refl, refl), ((refl, refl), tt))),
   fit-by bench (take 1 recipe-lost) refl ((refl, refl), tt),
@@ -88,7 +88,7 @@ heard-frame r e o f s c h = sym (over-take f o (length f) refl) ∙ (sym (ap (λ
 -- EQ at address 1
 status-heard : (r : Record) (a : List ℕ) → valid r ≡ true → get address r ≡ 1 → Agrees r (framed "01EQ" gets a)
     → frameOf Minicomputer (digits 2 1 ++ statusCharacters r) ≡ a
-unfolding frameOf xorFrom digits bytes check
+unfolding frameOf xorFrom digits check
 status-heard r a v i h =
     let o : List ℕ = replicate 64 0 in
     let answers : AnswersAt Minicomputer r o 1 (text "EQ") (statusCharacters r) =
@@ -111,7 +111,7 @@ silence-refuted c h =
 
 -- a reply of the right length whose third status character is not 0
 pub bytes-refuted : (c : ℕ) → Fits 1 c ((framed "01EQ" gets framed "01001000") ∷ []) → ⊥
-unfolding frameOf statusCharacters digits bytes
+unfolding frameOf statusCharacters digits
 bytes-refuted c h =
     let (r, s, a) = h in
     let z = ap (λ (f : List ℕ). getD f 5 0) (status-heard r (framed "01001000") (s .valid-record) (s .same-address) (a .0)) in
@@ -149,7 +149,7 @@ second-holds false e = let z : _≡_ {A = ℕ} 0 1 = cc in omega arith
 
 -- a level above the access that was set
 pub level-refuted : Fits 1 2 level-raised → ⊥
-unfolding textIn codeIn secondIn valueFrom bytes
+unfolding textIn codeIn secondIn valueFrom
 level-refuted h =
     let (r, s, g) = h in
     let q : List ℕ = framed "01XC 011 3" in
@@ -159,7 +159,7 @@ level-refuted h =
 
 -- each of two exchanges fits alone, as above, but not the one after the other
 pub lost-refuted : (c : ℕ) → Fits 1 c recipe-lost → ⊥
-unfolding textIn codeIn numberIn valueFrom frameOf xorFrom digits bytes check
+unfolding textIn codeIn numberIn valueFrom frameOf xorFrom digits check
 lost-refuted c h =
     let (r, s, g) = h in
     let q : List ℕ = framed "01NR 03" in
@@ -212,7 +212,7 @@ abbrev pub silence-recording : List ℕ
 silence-recording = 0x01 ∷ 0x00 ∷ 0x0f ∷ 0x01 ∷ 0x02 ∷ 0x08 ∷ (framed "01EQ" ++ (0x00 ∷ []))
 
 pub silence-judged : OnlyOf silence-recording (judged (refuted 1 1))
-unfolding recordingOf exchangesIn bytes check
+unfolding recordingOf exchangesIn check
 silence-judged = only-of silence-recording (judged (refuted 1 1)) (refl, omega arith, omega arith, nothing-fits, silence-refuted 2)
 
 -- what is not well-formed is refused with its number

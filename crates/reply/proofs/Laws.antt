@@ -339,7 +339,7 @@ text-codes (s ∷ ss) r h =
     (text-codes ss r (and-right (lettersOf s) (allLetters ss) h)) in
     text-wider _ _ _ _ _ (omega arith) (omega arith) f
 
-weight-high : (w : ℕ) (b : Bool) → weight w b ≤ w
+pub weight-high : (w : ℕ) (b : Bool) → weight w b ≤ w
 weight-high w true = omega arith
 weight-high w false = omega arith
 
