@@ -16,7 +16,7 @@ use Rattle.state.specs.declared.Range.{Range}
 use Rattle.state.specs.Parameter.{parameterCount, rangeAt}
 use Rattle.state.specs.Field.{value, level}
 use Rattle.stored.specs.declared.Slot.{Slot}
-use Rattle.stored.specs.Layout.{Item, alone, scalarItems, parameterItems, current, items, headerWidth, itemWidth, totalWidth, parametersAt, itemSlot, slotOf, slotsFrom, layout, noSlot}
+use Rattle.stored.specs.Layout.{Item, alone, scalarItems, parameterItems, current, items, headerWidth, itemWidth, totalWidth, parametersAt, itemSlot, slotOf, slotsFrom, scalarSlots, noSlot}
 use Rattle.stored.specs.Form.{storedLength}
 
 -- ---- any list of items
@@ -71,98 +71,22 @@ parameters-length (suc n) = let h = parameters-length n in length-append (parame
 abbrev pub pair : ℕ → List Item
 pair i = alone 4 (value i) ∷ alone 1 (level i) ∷ []
 
-parameter-slot : (at n i u : ℕ) → i < n → u < 2 → getD (slotsFrom at (parameterItems n)) (2 * i + u) noSlot ≡ getD (slotsFrom (at + 5 * i) (pair i)) u noSlot
-parameter-slot at zero i u h l = absurd (omega arith)
-parameter-slot at (suc n) i u h l =
-    let b = parameters-length n in
-    let c = slots-length at (parameterItems n) in
-    ap (λ (ss : List Slot). getD ss (2 * i + u) noSlot) (slots-append at (parameterItems n) (pair n)) ∙
-    ⊎-elim (λ (q : i < n). List·getD-append (slotsFrom at (parameterItems n)) _ noSlot (2 * i + u) (omega arith) ∙ parameter-slot at n i u q l)
-    (λ (q : n ≤ i).
-    let e : 2 * i + u ≡ length (slotsFrom at (parameterItems n)) + u = omega arith in
-    let j : n ≡ i = omega arith in
-    let w : at + totalWidth (parameterItems n) ≡ at + 5 * n = ap (λ (k : ℕ). at + k) (parameters-width n) in
-    ap (λ (k : ℕ). getD (slotsFrom at (parameterItems n) ++ slotsFrom (at + totalWidth (parameterItems n)) (pair n)) k noSlot) e ∙
-    (getD-append-add (slotsFrom at (parameterItems n)) _ u noSlot ∙
-    (ap (λ (k : ℕ). getD (slotsFrom k (pair n)) u noSlot) w ∙ ap (λ (k : ℕ). getD (slotsFrom (at + 5 * k) (pair k)) u noSlot) j)))
-    (below-or-not i n)
-
--- ---- the layout
-abbrev pub numberCount : ℕ
-numberCount = 8 + 2 * parameterCount
-
-pub layout-length : length (layout current) ≡ numberCount
-unfolding layout slotsFrom
-layout-length = refl
-
-behind-scalars : drop 8 (layout current) ≡ slotsFrom parametersAt (parameterItems parameterCount)
-unfolding layout slotsFrom
-behind-scalars = refl
-
-place-slot : (i u : ℕ) → i < parameterCount → u < 2 → getD (layout current) (8 + (2 * i + u)) noSlot ≡ getD (slotsFrom (parametersAt + 5 * i) (pair i)) u noSlot
-place-slot i u h l =
-    sym (getD-drop 8 (layout current) (2 * i + u) noSlot) ∙
-    (ap (λ (ss : List Slot). getD ss (2 * i + u) noSlot) behind-scalars ∙ parameter-slot parametersAt parameterCount i u h l)
-
-pub value-slot : (i k : ℕ) → i < parameterCount → k ≡ 8 + 2 * i → getD (layout current) k noSlot ≡ itemSlot (parametersAt + 5 * i) (alone 4 (value i))
-unfolding slotsFrom
-value-slot i k h e =
-    let q : k ≡ 8 + (2 * i + 0) = omega arith in ap (λ (j : ℕ). getD (layout current) j noSlot) q ∙ place-slot i 0 h (omega arith)
-
-pub level-slot : (i k : ℕ) → i < parameterCount → k ≡ 8 + 2 * i + 1 → getD (layout current) k noSlot ≡ itemSlot (parametersAt + 5 * i + 4) (alone 1 (level i))
-unfolding slotsFrom
-level-slot i k h e =
-    let q : k ≡ 8 + (2 * i + 1) = omega arith in ap (λ (j : ℕ). getD (layout current) j noSlot) q ∙ place-slot i 1 h (omega arith)
-
 -- ---- the length
 pub stored-177 : storedLength current ≡ 177
 unfolding storedLength
 stored-177 = refl
 
-pub length-known : (v : ℕ) → v ≡ 1 → 177 ≡ storedLength v
-length-known v e = sym (ap storedLength e ∙ stored-177)
-
-pub length-unknown : (v : ℕ) → (v ≡ 1 → ⊥) → 0 ≡ storedLength v
-unfolding storedLength
-length-unknown v n = sym (ap (λ (b : Bool). pick b (headerWidth + totalWidth (items v)) 0) (ne-eqb v 1 n))
-
--- every slot of the layout lies in the form, and is of four bytes at most
-items-narrow : narrow (items current) ≡ true
-items-narrow = refl
-
-module _ {s : Slot} {k : ℕ} (e : s ≡ getD (layout current) k noSlot) where
-  pub slot-ends : k < length (layout current) → s .at + s .width ≤ storedLength current
-  unfolding layout storedLength
-  slot-ends h =
-      let l = slots-length headerWidth (items current) in
-      let r = slot-room headerWidth (items current) k (omega arith) in
-      let a = ap (λ (t : Slot). t .at) e in
-      let w = ap (λ (t : Slot). t .width) e in
-      omega arith
-
-  pub slot-short : k < length (layout current) → s .width ≤ 4
-  unfolding layout
-  slot-short h =
-      let l = slots-length headerWidth (items current) in
-      let r = slot-narrow headerWidth (items current) k items-narrow (omega arith) in
-      let w = ap (λ (t : Slot). t .width) e in
-      omega arith
-
--- ---- the slot at a place, as the code gives it
-
--- the first eight
-abbrev pub scalarSlots : List Slot
-scalarSlots =
+-- ---- the slots before the parameters', as the code gives them
+abbrev pub scalarTable : List Slot
+scalarTable =
     slotOf 3 1 1 99 ∷ slotOf 4 1 0 3 ∷ slotOf 5 1 0 4 ∷ slotOf 6 1 0 31 ∷ slotOf 7 1 1 8 ∷ slotOf 8 3 0 999999 ∷ slotOf 11 4 0 99999999 ∷ slotOf 15 2 1 9999 ∷ []
 
-pub before-parameters : layout current ≡ scalarSlots ++ slotsFrom parametersAt (parameterItems parameterCount)
-unfolding layout slotsFrom
-before-parameters = refl
+table-is : scalarTable ≡ scalarSlots
+unfolding slotsFrom
+table-is = refl
 
-pub scalar-here : (j : ℕ) {k : ℕ} {s : Slot} → j < 8 → k ≡ j → s ≡ getD scalarSlots j noSlot → s ≡ getD (layout current) k noSlot
-scalar-here j {k} {s} h e q =
-    q ∙ (sym (List·getD-append scalarSlots (slotsFrom parametersAt (parameterItems parameterCount)) noSlot j h) ∙
-    (ap (λ (l : List Slot). getD l j noSlot) (sym before-parameters) ∙ ap (λ (i : ℕ). getD (layout current) i noSlot) (sym e)))
+pub scalar-here : (j : ℕ) {k : ℕ} {s : Slot} → k ≡ j → s ≡ getD scalarTable j noSlot → s ≡ getD scalarSlots k noSlot
+scalar-here j {k} {s} e q = q ∙ (ap (λ (l : List Slot). getD l j noSlot) table-is ∙ ap (λ (i : ℕ). getD scalarSlots i noSlot) (sym e))
 
 -- the last arm has the last place
 abbrev pub Others : ℕ → Type 0
@@ -178,30 +102,21 @@ last-place k n h =
     past : (i j : ℕ) → j ≤ i → (i ≡ j → ⊥) → j + 1 ≤ i
     past i j l d = omega arith
 
-pub scalar-last : {k : ℕ} {s : Slot} → Others k → k < 8 → s ≡ getD scalarSlots 7 noSlot → s ≡ getD (layout current) k noSlot
-scalar-last {k} {s} n h e = scalar-here 7 (omega arith) (last-place k n h) e
+pub scalar-last : {k : ℕ} {s : Slot} → Others k → k < 8 → s ≡ getD scalarTable 7 noSlot → s ≡ getD scalarSlots k noSlot
+scalar-last {k} {s} n h e = scalar-here 7 (last-place k n h) e
 
--- a version that is not known has none
-pub slot-unknown : (v k : ℕ) (s : Slot) → (v ≡ 1 → ⊥) → s ≡ noSlot → s ≡ getD (layout v) k noSlot
-unfolding layout slotsFrom
-slot-unknown v k s n e = e ∙ sym (ap (λ (b : Bool). getD (slotsFrom headerWidth (pick b (items current) [])) k noSlot) (ne-eqb v 1 n))
+-- they lie before the parameters', and are of four bytes at most
+module _ (s : Slot) (k : ℕ) (e : s ≡ getD scalarSlots k noSlot) (h : k < 8) where
+  pub scalar-ends : s .at + s .width ≤ 17
+  scalar-ends =
+      let r = slot-room headerWidth scalarItems k h in
+      let a = ap (λ (t : Slot). t .at) e in
+      let w = ap (λ (t : Slot). t .width) e in
+      omega arith
 
-module _ (v k : ℕ) (one : v ≡ 1) where
-  pub slot-current : (s : Slot) → s ≡ getD (layout current) k noSlot → s ≡ getD (layout v) k noSlot
-  slot-current s e = e ∙ ap (λ (w : ℕ). getD (layout w) k noSlot) (sym one)
+  pub scalar-short : s .width ≤ 4
+  scalar-short = let r = slot-narrow headerWidth scalarItems k refl h in let w = ap (λ (t : Slot). t .width) e in omega arith
 
-  pub slot-beyond : (s : Slot) → numberCount ≤ k → s ≡ noSlot → s ≡ getD (layout v) k noSlot
-  slot-beyond s h e =
-      let b : length (layout current) ≤ k = omega (arith, layout-length) in
-      slot-current s (e ∙ sym (List·getD-eq-default (layout current) noSlot b))
-
-  module _ (s : Slot) (past : 8 ≤ k) (below : k < numberCount) where
-    pub level-there : (k - 8) % 2 ≡ 1 → s ≡ itemSlot (parametersAt + 5 * ((k - 8) / 2) + 4) (alone 1 (level ((k - 8) / 2))) → s ≡ getD (layout v) k noSlot
-    level-there m e = slot-current s (e ∙ sym (level-slot ((k - 8) / 2) k (omega arith) (omega arith)))
-
-    pub value-there : ((k - 8) % 2 ≡ 1 → ⊥) → s ≡ itemSlot (parametersAt + 5 * ((k - 8) / 2)) (alone 4 (value ((k - 8) / 2))) → s ≡ getD (layout v) k noSlot
-    value-there m e = slot-current s (e ∙ sym (value-slot ((k - 8) / 2) k (omega arith) (omega arith)))
-
--- a parameter's range
-pub value-range : (i a w : ℕ) (g : Range) (s : Slot) → g ≡ rangeAt i → s ≡ slotOf a w (g .low) (g .high) → s ≡ itemSlot a (alone w (value i))
-value-range i a w g s e q = q ∙ ap (λ (r : Range). slotOf a w (r .low) (r .high)) e
+-- ---- the slot of a parameter's value
+pub value-is : (i : ℕ) (g : Range) (s : Slot) → g ≡ rangeAt i → s ≡ slotOf (17 + 5 * i) 4 (g .low) (g .high) → s ≡ itemSlot (parametersAt + 5 * i) (alone 4 (value i))
+value-is i g s e q = q ∙ ap (λ (r : Range). slotOf (17 + 5 * i) 4 (r .low) (r .high)) e

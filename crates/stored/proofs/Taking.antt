@@ -1,6 +1,6 @@
 -- What the readers' answers tell, and what the numbers of some items make of a record, item by item. Assumes nothing.
 use Prim.Native.Nat.{ℕ, zero, suc, _+_, _-_, _*_, _/_, _%_, _≤_, _<_}
-use mathlib.Core.Bool.{Bool, true, false, not, _&&_}
+use mathlib.Core.Bool.{Bool, true, false, not, _&&_, false≢true}
 use mathlib.Core.Path.{_≡_, refl, sym, ap, subst, _∙_}
 use mathlib.Core.List.{List, [], _∷_, _++_}
 use native.Mathlib.Nat.{eq-or-lt-of-le}
@@ -11,21 +11,28 @@ use lib.Dec.{ltb}
 use lib.ListN.{length, getD, take, drop, set, length-take, length-drop}
 use borrow.Author.Tests.{eq-eqb, ne-eqb, eqb-true, ltb-true, not-true, not-false}
 use Rattle.base.specs.Test.{unless, between}
-use Rattle.base.proofs.Tests.{by-test, between-high, holds-below}
+use Rattle.base.specs.Lists.{over}
+use Rattle.base.proofs.Tests.{by-test, and-yes, and-no, and-left, and-right, between-high, holds-below}
 use Rattle.state.specs.declared.Record.{Record}
 use Rattle.state.specs.declared.Phase.{Phase}
-use Rattle.state.specs.Parameter.{parameterCount}
-use Rattle.state.specs.Field.{value, level, put, phaseOf, flagOf}
+use Rattle.state.specs.declared.Range.{Range}
+use Rattle.state.specs.Parameter.{recipes, parameterCount, rangeAt}
+use Rattle.state.proofs.Parameters.{range-repeats}
+use Rattle.state.specs.Field.{value, level, put, phaseOf, flagOf, listed, recordFrom}
 use Rattle.state.proofs.Fields.{withLists, put-value, put-level}
+use Rattle.state.proofs.Whole.{listed-length}
 use Rattle.stored.specs.declared.Header.{Header}
 use Rattle.stored.specs.declared.Header.the-variants as header
 use Rattle.stored.specs.declared.Refusal.{Refusal}
 use Rattle.stored.specs.declared.Number.{Number}
 use Rattle.stored.specs.declared.Number.the-variants as number
+use Rattle.stored.specs.declared.Parameter.{Parameter}
+use Rattle.stored.specs.declared.Parameter.the-variants as parameter
 use Rattle.stored.specs.declared.Slot.{Slot}
-use Rattle.stored.specs.Layout.{Item, alone, scalarItems, parameterItems, current, items, headerWidth, itemWidth, totalWidth, parametersAt, itemSlot, slotsFrom, layout, noSlot, putItem, putBits, putAll}
-use Rattle.stored.specs.Form.{Outcome, K, done, refusalNumber, headerAs, numberOf, numberAt, numbersIn, inSlot, allIn, storedLength, headerOf, lowRecord, takenFrom, bodyOf, afterHeader, readOf, numberRead}
-use Rattle.stored.proofs.Slots.{pair, parameters-width, layout-length, value-slot, level-slot, stored-177, slot-ends, slot-short}
+use Rattle.stored.specs.Layout.{Item, alone, scalarItems, parameterItems, current, items, headerWidth, itemWidth, totalWidth, parametersAt, itemSlot, slotsFrom, scalarSlots, noSlot, putItem, putBits, putAll}
+use Rattle.stored.specs.Form.{Outcome, K, done, refusalNumber, headerAs, numberOf, numberAt, numbersIn, inSlot, allIn, storedLength, headerOf, lowRecord, takenFrom, bodyOf, afterHeader, readOf, numberRead, pairRead, parameterRead}
+use Rattle.stored.proofs.ListLaws.{set-over, over-all}
+use Rattle.stored.proofs.Slots.{pair, parameters-width, stored-177}
 
 -- ---- the header
 module _ (s : List ℕ) where
@@ -50,35 +57,22 @@ module _ (s : List ℕ) where
 pub ruleset heading = (header-length, header-version, header-field, header-good)
 
 -- ---- one number
-module _ (k : ℕ) (s : Slot) (bs : List ℕ) (place : k < length (layout current)) (e : s ≡ getD (layout current) k noSlot) where
-  -- its slot lies in the bytes
-  pub slot-inside : length bs ≡ storedLength current → s .at + s .width ≤ length bs
-  slot-inside l = let h = slot-ends e place in omega arith
+pub slot-four : (s : Slot) (bs : List ℕ) → s .width ≤ 4 → length (take (s .at + s .width - s .at) (drop (s .at) bs)) ≤ 4
+slot-four s bs h = simp (length-take, length-drop) (omega arith)
 
-  pub slot-before : storedLength current ≤ length bs → s .at + s .width ≤ length bs
-  slot-before l = let h = slot-ends e place in omega arith
-
-  pub slot-fits : s .at + s .width < 18446744073709551616
-  slot-fits = let h = slot-ends e place in omega (arith, stored-177)
-
-  pub slot-four : length (take (s .at + s .width - s .at) (drop (s .at) bs)) ≤ 4
-  slot-four = let h = slot-short e place in simp (length-take, length-drop) (omega arith)
-
-module _ (s t : Slot) (bs : List ℕ) (n : ℕ) (b : Bool) (i : s ≡ t) (j : n ≡ numberOf (take (s .at + s .width - s .at) (drop (s .at) bs)))
+module _ (s : Slot) (bs : List ℕ) (n : ℕ) (b : Bool) (j : n ≡ numberOf (take (s .at + s .width - s .at) (drop (s .at) bs)))
     (e : b ≡ between (s .low) (s .high) n) where
-  is-number : n ≡ numberAt bs t
-  is-number =
-      let w : s .at + s .width - s .at ≡ s .width = omega arith in
-      j ∙ (ap (λ (m : ℕ). numberOf (take m (drop (s .at) bs))) w ∙ ap (numberAt bs) i)
+  is-number : n ≡ numberAt bs s
+  is-number = let w : s .at + s .width - s .at ≡ s .width = omega arith in j ∙ ap (λ (m : ℕ). numberOf (take m (drop (s .at) bs))) w
 
-  is-inside : b ≡ inSlot t (numberAt bs t)
-  is-inside = e ∙ (ap (λ (m : ℕ). between (s .low) (s .high) m) is-number ∙ ap (λ (u : Slot). inSlot u (numberAt bs t)) i)
+  is-inside : b ≡ inSlot s (numberAt bs s)
+  is-inside = e ∙ ap (λ (m : ℕ). between (s .low) (s .high) m) is-number
 
-  pub read-outside : not b ≡ true → number.Outside ≡ numberRead t bs
+  pub read-outside : not b ≡ true → number.Outside ≡ numberRead s bs
   unfolding numberRead
   read-outside h = simp (sym is-inside ∙ not-true b h)
 
-  pub read-inside : not b ≡ false → number.Inside n ≡ numberRead t bs
+  pub read-inside : not b ≡ false → number.Inside n ≡ numberRead s bs
   unfolding numberRead
   read-inside h = ap number.Inside is-number ∙ simp (sym is-inside ∙ not-false b h)
 
@@ -167,71 +161,220 @@ all-read bs at [] (n ∷ ns) r h = absurd h
 all-read bs at (x ∷ xs) [] r h = absurd h
 all-read bs at (x ∷ xs) (n ∷ ns) r h = taken-inside bs at x xs r n (h .0) ∙ all-read bs (at + itemWidth x) xs ns (putItem x n r) (h .1)
 
+-- ---- one parameter
+abbrev valueSlot : ℕ → Slot
+valueSlot i = itemSlot (parametersAt + 5 * i) (alone 4 (value i))
+
+abbrev levelSlot : ℕ → Slot
+levelSlot i = itemSlot (parametersAt + 5 * i + 4) (alone 1 (level i))
+
+-- its slots lie in the bytes
+module _ (i : ℕ) (bs : List ℕ) (below : i < parameterCount) (long : length bs ≡ storedLength current) where
+  pub value-room : (s : Slot) → s ≡ valueSlot i → (s .at + s .width ≤ length bs) × (s .width ≤ 4)
+  value-room s e =
+      let a = ap (λ (t : Slot). t .at) e in let w = ap (λ (t : Slot). t .width) e in (omega (arith, stored-177), omega arith)
+
+  pub level-room : (s : Slot) → s ≡ levelSlot i → (s .at + s .width ≤ length bs) × (s .width ≤ 4)
+  level-room s e =
+      let a = ap (λ (t : Slot). t .at) e in let w = ap (λ (t : Slot). t .width) e in (omega (arith, stored-177), omega arith)
+
+module _ (i : ℕ) (bs : List ℕ) (s : Slot) (x : Number) (q : s ≡ valueSlot i) (e : x ≡ numberRead s bs) where
+  by-value : x ≡ numberRead (valueSlot i) bs
+  by-value = e ∙ ap (λ (t : Slot). numberRead t bs) q
+
+  pub value-out : x ≡ number.Outside → parameter.Outside ≡ parameterRead i bs
+  unfolding parameterRead
+  value-out o = ap (λ (y : Number). pairRead y (numberRead (levelSlot i) bs)) (sym o ∙ by-value)
+
+  module _ (n : ℕ) (v : x ≡ number.Inside n) (t : Slot) (y : Number) (p : t ≡ levelSlot i) (f : y ≡ numberRead t bs) where
+    by-level : y ≡ numberRead (levelSlot i) bs
+    by-level = f ∙ ap (λ (u : Slot). numberRead u bs) p
+
+    pair-is : pairRead (number.Inside n) y ≡ parameterRead i bs
+    unfolding parameterRead
+    pair-is = ap (λ (z : Number). pairRead z y) (sym v ∙ by-value) ∙ ap (pairRead (numberRead (valueSlot i) bs)) by-level
+
+    pub level-out : y ≡ number.Outside → parameter.Outside ≡ parameterRead i bs
+    level-out o = ap (pairRead (number.Inside n)) (sym o) ∙ pair-is
+
+    pub level-byte : (m : ℕ) → y ≡ number.Inside m → m < 256
+    level-byte m l = let h : m ≤ 3 = read-high (levelSlot i) bs m (told-inside (levelSlot i) bs y m by-level l) in omega arith
+
+    pub both-in : (m : ℕ) → y ≡ number.Inside m → parameter.Inside n m ≡ parameterRead i bs
+    both-in m l = ap (pairRead (number.Inside n)) (sym l) ∙ pair-is
+
+-- what its reader's answer tells
+parameter-inside : (i : ℕ) (bs : List ℕ) (n m : ℕ) → parameter.Inside n m ≡ parameterRead i bs → Read (valueSlot i) bs n × Read (levelSlot i) bs m
+unfolding parameterRead
+parameter-inside i bs n m e = go (numberRead (valueSlot i) bs) (numberRead (levelSlot i) bs) refl refl e
+  where
+    go : (x y : Number) → x ≡ numberRead (valueSlot i) bs → y ≡ numberRead (levelSlot i) bs → parameter.Inside n m ≡ pairRead x y
+        → Read (valueSlot i) bs n × Read (levelSlot i) bs m
+    go number.Outside y p q o = let z : _≡_ {A = ℕ} 0 1 = cc in absurd (omega arith)
+    go (number.Inside v) number.Outside p q o = let z : _≡_ {A = ℕ} 0 1 = cc in absurd (omega arith)
+    go (number.Inside v) (number.Inside l) p q o =
+        let a : n ≡ v = cc in
+        let b : m ≡ l = cc in (
+          told-inside (valueSlot i) bs (number.Inside v) n p (ap number.Inside (sym a)),
+          told-inside (levelSlot i) bs (number.Inside l) m q (ap number.Inside (sym b)),
+        )
+
+parameter-outside : (i : ℕ) (bs : List ℕ) → parameter.Outside ≡ parameterRead i bs
+    → (inSlot (valueSlot i) (numberAt bs (valueSlot i)) && inSlot (levelSlot i) (numberAt bs (levelSlot i))) ≡ false
+unfolding parameterRead
+parameter-outside i bs e = go (numberRead (valueSlot i) bs) (numberRead (levelSlot i) bs) refl refl e
+  where
+    go : (x y : Number) → x ≡ numberRead (valueSlot i) bs → y ≡ numberRead (levelSlot i) bs → parameter.Outside ≡ pairRead x y
+        → (inSlot (valueSlot i) (numberAt bs (valueSlot i)) && inSlot (levelSlot i) (numberAt bs (levelSlot i))) ≡ false
+    go number.Outside y p q o = simp (told-outside (valueSlot i) bs number.Outside p refl)
+    go (number.Inside v) number.Outside p q o =
+        and-no (inSlot (valueSlot i) (numberAt bs (valueSlot i))) (inSlot (levelSlot i) (numberAt bs (levelSlot i)))
+        (λ a b. false≢true (sym (told-outside (levelSlot i) bs number.Outside q refl) ∙ b))
+    go (number.Inside v) (number.Inside l) p q o = let z : _≡_ {A = ℕ} 0 1 = cc in absurd (omega arith)
+
+-- each recipe's ranges are those of the first
+pub recipe-range : (g : Range) (r k : ℕ) → r < recipes → k < 3 → g ≡ rangeAt k → g ≡ rangeAt (3 * r + k)
+recipe-range g r k h l e = e ∙ sym (range-repeats r k h l)
+
 -- ---- the parameters, one after the other
-module _ (bs : List ℕ) (before : Record) where
-  -- the first n parameters' items
-  abbrev taken : ℕ → Outcome × Record
-  taken n = takenFrom parametersAt (parameterItems n) bs before
+module _ (bs : List ℕ) where
+  abbrev both : ℕ → Bool
+  both i = inSlot (valueSlot i) (numberAt bs (valueSlot i)) && inSlot (levelSlot i) (numberAt bs (levelSlot i))
 
-  pub begun : taken 0 ≡ (done, before)
-  unfolding takenFrom slotsFrom numbersIn allIn putAll
-  begun = refl
+  module _ (before : Record) where
+    -- the first n parameters' items
+    abbrev pub taken : ℕ → Outcome × Record
+    taken n = takenFrom parametersAt (parameterItems n) bs before
 
-  -- refused by the first of them, refused by all
-  later-refused : (n m : ℕ) → taken n ≡ (K 4, lowRecord) → taken (n + m) ≡ (K 4, lowRecord)
-  later-refused n zero e = let z : n ≡ n + 0 = omega arith in ap taken (sym z) ∙ e
-  later-refused n (suc m) e =
-      let z : n + suc m ≡ suc (n + m) = omega arith in
-      ap taken z ∙ taken-refused bs parametersAt (parameterItems (n + m)) (pair (n + m)) before (later-refused n m e)
+    pub begun : taken 0 ≡ (done, before)
+    unfolding takenFrom slotsFrom numbersIn allIn putAll
+    begun = refl
 
-  module _ (r : Record) (i : ℕ) (so-far : taken i ≡ (done, r)) (below : i < parameterCount) where
-    from-here : taken (i + 1) ≡ takenFrom (parametersAt + 5 * i) (pair i) bs r
-    from-here =
-        ap taken (add-one i) ∙
-        (taken-done bs parametersAt (parameterItems i) (pair i) before r so-far ∙
-        ap (λ (w : ℕ). takenFrom (parametersAt + w) (pair i) bs r) (parameters-width i))
+    -- refused by the first of them, refused by all
+    later-refused : (n m : ℕ) → taken n ≡ (K 4, lowRecord) → taken (n + m) ≡ (K 4, lowRecord)
+    later-refused n zero e = let z : n ≡ n + 0 = omega arith in ap taken (sym z) ∙ e
+    later-refused n (suc m) e =
+        let z : n + suc m ≡ suc (n + m) = omega arith in
+        ap taken z ∙ taken-refused bs parametersAt (parameterItems (n + m)) (pair (n + m)) before (later-refused n m e)
 
-    refused-here : (a : Outcome) (s : Record) → a ≡ K 4 → s ≡ lowRecord → taken (i + 1) ≡ (K 4, lowRecord) → (a, s) ≡ taken parameterCount
-    refused-here a s p q e =
-        let z : i + 1 + (parameterCount - (i + 1)) ≡ parameterCount = omega arith in
-        let both : _≡_ {A = Outcome × Record} (a, s) (K 4, lowRecord) = cc in
-        both ∙ (sym (later-refused (i + 1) (parameterCount - (i + 1)) e) ∙ ap taken z)
+    module _ (r : Record) (i : ℕ) (so-far : taken i ≡ (done, r)) where
+      from-here : taken (i + 1) ≡ takenFrom (parametersAt + 5 * i) (pair i) bs r
+      from-here =
+          ap taken (add-one i) ∙
+          (taken-done bs parametersAt (parameterItems i) (pair i) before r so-far ∙
+          ap (λ (w : ℕ). takenFrom (parametersAt + w) (pair i) bs r) (parameters-width i))
 
-    module _ (x : Number) (e : x ≡ numberRead (getD (layout current) (8 + 2 * i) noSlot) bs) where
-      by-value : x ≡ numberRead (itemSlot (parametersAt + 5 * i) (alone 4 (value i))) bs
-      by-value = e ∙ ap (λ (t : Slot). numberRead t bs) (value-slot i (8 + 2 * i) below refl)
+      next-inside : (n m : ℕ) → Read (valueSlot i) bs n → Read (levelSlot i) bs m
+          → taken (i + 1) ≡ (done, withLists (set (r .values) i n) (set (r .levels) i m) r)
+      unfolding takenFrom slotsFrom numbersIn allIn putAll
+      next-inside n m v l =
+          from-here ∙
+          (taken-inside bs (parametersAt + 5 * i) (alone 4 (value i)) (alone 1 (level i) ∷ []) r n v ∙
+          (taken-inside bs (parametersAt + 5 * i + 4) (alone 1 (level i)) [] (put (value i) n r) m l ∙
+          ap (λ (t : Record). (done, t))
+          (ap (put (level i) m) (sym (put-value i n r)) ∙ sym (put-level i m (withLists (set (r .values) i n) (r .levels) r)))))
 
-      pub value-outside : x ≡ number.Outside → (a : Outcome) (s : Record) → a ≡ K 4 → s ≡ lowRecord → (a, s) ≡ taken parameterCount
-      value-outside o a s p q =
-          refused-here a s p q
-          (from-here ∙ taken-outside bs (parametersAt + 5 * i) (alone 4 (value i)) (alone 1 (level i) ∷ []) r (told-outside _ bs x by-value o))
+      next-outside : both i ≡ false → taken (i + 1) ≡ (K 4, lowRecord)
+      next-outside o =
+          from-here ∙
+          by-test (inSlot (valueSlot i) (numberAt bs (valueSlot i)))
+          (λ v.
+          let q : Read (valueSlot i) bs (numberAt bs (valueSlot i)) = record { inside = v; is = refl } in
+          let l : inSlot (levelSlot i) (numberAt bs (levelSlot i)) ≡ false = ap (λ (b : Bool). b && inSlot (levelSlot i) (numberAt bs (levelSlot i))) (sym v) ∙ o in
+          taken-inside bs (parametersAt + 5 * i) (alone 4 (value i)) (alone 1 (level i) ∷ []) r _ q ∙
+          taken-outside bs (parametersAt + 5 * i + 4) (alone 1 (level i)) [] (put (value i) (numberAt bs (valueSlot i)) r) l)
+          (λ v. taken-outside bs (parametersAt + 5 * i) (alone 4 (value i)) (alone 1 (level i) ∷ []) r v)
 
-      module _ (n : ℕ) (v : x ≡ number.Inside n) (y : Number) (f : y ≡ numberRead (getD (layout current) (8 + 2 * i + 1) noSlot) bs) where
-        by-level : y ≡ numberRead (itemSlot (parametersAt + 5 * i + 4) (alone 1 (level i))) bs
-        by-level = f ∙ ap (λ (t : Slot). numberRead t bs) (level-slot i (8 + 2 * i + 1) below refl)
+      module _ (x : Parameter) (e : x ≡ parameterRead i bs) where
+        pub both-inside : (n m : ℕ) → x ≡ parameter.Inside n m → taken (i + 1) ≡ (done, withLists (set (r .values) i n) (set (r .levels) i m) r)
+        both-inside n m o = let q = parameter-inside i bs n m (sym o ∙ e) in next-inside n m (q .0) (q .1)
 
-        with-value : taken (i + 1) ≡ takenFrom (parametersAt + 5 * i + 4) (alone 1 (level i) ∷ []) bs (put (value i) n r)
-        with-value =
-            from-here ∙ taken-inside bs (parametersAt + 5 * i) (alone 4 (value i)) (alone 1 (level i) ∷ []) r n (told-inside _ bs x n by-value v)
+        pub one-outside : i < parameterCount → x ≡ parameter.Outside → (a : Outcome) (s : Record) → a ≡ K 4 → s ≡ lowRecord → (a, s) ≡ taken parameterCount
+        one-outside h o a s p q =
+            let z : i + 1 + (parameterCount - (i + 1)) ≡ parameterCount = omega arith in
+            let same : _≡_ {A = Outcome × Record} (a, s) (K 4, lowRecord) = cc in
+            same ∙ (sym (later-refused (i + 1) (parameterCount - (i + 1)) (next-outside (parameter-outside i bs (sym o ∙ e)))) ∙ ap taken z)
 
-        pub level-outside : y ≡ number.Outside → (a : Outcome) (s : Record) → a ≡ K 4 → s ≡ lowRecord → (a, s) ≡ taken parameterCount
-        level-outside o a s p q =
-            refused-here a s p q
-            (with-value ∙ taken-outside bs (parametersAt + 5 * i + 4) (alone 1 (level i)) [] (put (value i) n r) (told-outside _ bs y by-level o))
+    pub all-taken : (r : Record) (i : ℕ) → taken i ≡ (done, r) → i ≤ parameterCount → parameterCount ≤ i → (done, r) ≡ taken parameterCount
+    all-taken r i e h l = let z : i ≡ parameterCount = omega arith in sym e ∙ ap taken z
 
-        pub level-byte : (m : ℕ) → y ≡ number.Inside m → m < 256
-        level-byte m l = let h : m ≤ 3 = read-high _ bs m (told-inside _ bs y m by-level l) in omega arith
+  -- from what the first i parameters' numbers make of a record, those up to j make this
+  abbrev pub Further : Record → ℕ → Record → ℕ → Type 0
+  Further f i g j = (before : Record) → taken before i ≡ (done, f) → taken before j ≡ (done, g)
 
-        pub both-inside : (m : ℕ) → y ≡ number.Inside m → taken (i + 1) ≡ (done, withLists (set (r .values) i n) (set (r .levels) i m) r)
-        unfolding takenFrom slotsFrom numbersIn allIn putAll
-        both-inside m l =
-            with-value ∙
-            (taken-inside bs (parametersAt + 5 * i + 4) (alone 1 (level i)) [] (put (value i) n r) m (told-inside _ bs y m by-level l) ∙
-            ap (λ (r : Record). (done, r))
-            (ap (put (level i) m) (sym (put-value i n r)) ∙ sym (put-level i m (withLists (set (r .values) i n) (r .levels) r))))
+  -- recipe by recipe, kind by kind
+  module _ (before f : Record) (r : ℕ) where
+    pub recipe-begun : taken before (3 * r) ≡ (done, f) → taken before (3 * r + 0) ≡ (done, f)
+    recipe-begun e = let z : 3 * r ≡ 3 * r + 0 = omega arith in ap (taken before) (sym z) ∙ e
 
-  pub all-taken : (r : Record) (i : ℕ) → taken i ≡ (done, r) → i ≤ parameterCount → parameterCount ≤ i → (done, r) ≡ taken parameterCount
-  all-taken r i e h l = let z : i ≡ parameterCount = omega arith in sym e ∙ ap taken z
+    pub recipes-ended : r ≤ recipes → recipes ≤ r → taken before (3 * r) ≡ (done, f) → taken before (3 * recipes) ≡ (done, f)
+    recipes-ended h l e = let z : 3 * r ≡ 3 * recipes = omega arith in ap (taken before) (sym z) ∙ e
+
+    module _ (k : ℕ) where
+      pub recipe-ended : k ≤ 3 → 3 ≤ k → taken before (3 * r + k) ≡ (done, f) → taken before (3 * (r + 1)) ≡ (done, f)
+      recipe-ended h l e = let z : 3 * r + k ≡ 3 * (r + 1) = omega arith in ap (taken before) (sym z) ∙ e
+
+      pub next-kind : taken before (3 * r + k) ≡ (done, f) → (x : Parameter) → x ≡ parameterRead (3 * r + k) bs → (n m : ℕ) → x ≡ parameter.Inside n m
+          → taken before (3 * r + (k + 1)) ≡ (done, withLists (set (f .values) (3 * r + k) n) (set (f .levels) (3 * r + k) m) f)
+      next-kind e x q n m o = let z : 3 * r + (k + 1) ≡ 3 * r + k + 1 = omega arith in ap (taken before) z ∙ both-inside before f (3 * r + k) e x q n m o
+
+  -- ---- all parameters' numbers are stored: what the record's lists held before does not show
+  abbrev allBoth : ℕ → Bool
+  allBoth zero = true
+  allBoth (suc n) = allBoth n && both n
+
+  abbrev values : ℕ → List ℕ
+  values n = listed (λ (i : ℕ). numberAt bs (valueSlot i)) n
+
+  abbrev levels : ℕ → List ℕ
+  levels n = listed (λ (i : ℕ). numberAt bs (levelSlot i)) n
+
+  module _ (r : Record) (vs ls : List ℕ) where
+    abbrev laid : ℕ → Record
+    laid n = withLists (over (values n) vs) (over (levels n) ls) r
+
+    laid-next : (n : ℕ) → n < length vs → n < length ls
+        → withLists (set (over (values n) vs) n (numberAt bs (valueSlot n))) (set (over (levels n) ls) n (numberAt bs (levelSlot n))) r ≡ laid (suc n)
+    unfolding listed
+    laid-next n p q =
+        let v = set-over (values n) vs n (numberAt bs (valueSlot n)) (listed-length (λ (i : ℕ). numberAt bs (valueSlot i)) n) p in
+        let l = set-over (levels n) ls n (numberAt bs (levelSlot n)) (listed-length (λ (i : ℕ). numberAt bs (levelSlot i)) n) q in
+        ap (λ (x : List ℕ). withLists x (set (over (levels n) ls) n (numberAt bs (levelSlot n))) r) v ∙ ap (λ (x : List ℕ). withLists (over (values (suc n)) vs) x r) l
+
+    all-laid : (n : ℕ) → n ≤ length vs → n ≤ length ls → taken (withLists vs ls r) n ≡ unless (allBoth n) (K 4, lowRecord) (done, laid n)
+    unfolding over listed
+    all-laid zero p q = begun (withLists vs ls r)
+    all-laid (suc n) p q =
+        let h = all-laid n (omega arith) (omega arith) in
+        let s : Record = withLists vs ls r in
+        by-test (allBoth n)
+        (λ t.
+        let f : taken s n ≡ (done, laid n) = h ∙ ap (λ (b : Bool). unless b (K 4, lowRecord) (done, laid n)) t in
+        by-test (both n)
+        (λ b.
+        ap (taken s) (sym (add-one n)) ∙
+        (next-inside s (laid n) n f _ _ (record { inside = and-left (inSlot (valueSlot n) (numberAt bs (valueSlot n))) (inSlot (levelSlot n) (numberAt bs (levelSlot n))) b; is = refl })
+        (record { inside = and-right (inSlot (valueSlot n) (numberAt bs (valueSlot n))) (inSlot (levelSlot n) (numberAt bs (levelSlot n))) b; is = refl }) ∙
+        (ap (λ (x : Record). (done, x)) (laid-next n p q) ∙ ap (λ (x : Bool). unless x (K 4, lowRecord) (done, laid (suc n))) (sym (and-yes (allBoth n) (both n) t b)))))
+        (λ b.
+        ap (taken s) (sym (add-one n)) ∙
+        (next-outside s (laid n) n f b ∙ ap (λ (x : Bool). unless x (K 4, lowRecord) (done, laid (suc n))) (sym (and-no (allBoth n) (both n) (λ x y. false≢true (sym b ∙ y)))))))
+        (λ t.
+        taken-refused bs parametersAt (parameterItems n) (pair n) s (h ∙ ap (λ (b : Bool). unless b (K 4, lowRecord) (done, laid n)) t) ∙
+        ap (λ (x : Bool). unless x (K 4, lowRecord) (done, laid (suc n))) (sym (and-no (allBoth n) (both n) (λ x y. false≢true (sym t ∙ x)))))
+
+    all-new : length vs ≡ parameterCount → length ls ≡ parameterCount
+        → taken (withLists vs ls r) parameterCount ≡ unless (allBoth parameterCount) (K 4, lowRecord) (done, withLists (values parameterCount) (levels parameterCount) r)
+    all-new p q =
+        let a = listed-length (λ (i : ℕ). numberAt bs (valueSlot i)) parameterCount in
+        let b = listed-length (λ (i : ℕ). numberAt bs (levelSlot i)) parameterCount in
+        all-laid parameterCount (omega arith) (omega arith) ∙
+        (ap (λ (x : List ℕ). unless (allBoth parameterCount) (K 4, lowRecord) (done, withLists x (over (levels parameterCount) ls) r)) (over-all (values parameterCount) vs (omega arith)) ∙
+        ap (λ (x : List ℕ). unless (allBoth parameterCount) (K 4, lowRecord) (done, withLists (values parameterCount) x r)) (over-all (levels parameterCount) ls (omega arith)))
+
+  lists-new : (r : Record) (vs ls vs′ ls′ : List ℕ) → length vs ≡ parameterCount → length ls ≡ parameterCount → length vs′ ≡ parameterCount → length ls′ ≡ parameterCount
+      → taken (withLists vs ls r) parameterCount ≡ taken (withLists vs′ ls′ r) parameterCount
+  lists-new r vs ls vs′ ls′ a b c d = all-new r vs ls a b ∙ sym (all-new r vs′ ls′ c d)
 
 -- ---- the numbers before them
 quarter : (n : ℕ) → n / 2 / 2 ≡ n / 4
@@ -257,60 +400,48 @@ module _ (bs : List ℕ) where
       taken-inside bs at x xs r _ q ∙ outside-at (at + itemWidth x) xs k (putItem x (numberAt bs (itemSlot at x)) r) (omega arith) o)
       (λ i. taken-outside bs at x xs r i)
 
-  pub body-outside : (k : ℕ) (x : Number) (a : Outcome) (s : Record) → k < 8 → x ≡ numberRead (getD (layout current) k noSlot) bs → x ≡ number.Outside
+  pub body-outside : (k : ℕ) (t : Slot) (x : Number) (a : Outcome) (s : Record) → k < 8 → t ≡ getD scalarSlots k noSlot → x ≡ numberRead t bs → x ≡ number.Outside
       → a ≡ K 4 → s ≡ lowRecord → (a, s) ≡ bodyOf bs
-  unfolding bodyOf layout
-  body-outside k x a s h e o p q =
+  unfolding bodyOf
+  body-outside k t x a s h i e o p q =
       let both : _≡_ {A = Outcome × Record} (a, s) (K 4, lowRecord) = cc in
-      let l : k < length (items current) = omega arith in
-      both ∙ sym (outside-at headerWidth (items current) k lowRecord l (told-outside _ bs x e o))
+      both ∙ sym (taken-refused bs headerWidth scalarItems (parameterItems parameterCount) lowRecord
+      (outside-at headerWidth scalarItems k lowRecord h (told-outside _ bs x (e ∙ ap (λ (u : Slot). numberRead u bs) i) o)))
+
+  place-told : (k : ℕ) (t : Slot) (x : Number) (n : ℕ) → t ≡ getD scalarSlots k noSlot → x ≡ numberRead t bs → x ≡ number.Inside n → Read (getD scalarSlots k noSlot) bs n
+  place-told k t x n q e i = told-inside (getD scalarSlots k noSlot) bs x n (e ∙ ap (λ (u : Slot). numberRead u bs) q) i
 
   -- the first five numbers are bytes, and the last is of two
-  module _ (k : ℕ) (x : Number) (n : ℕ) (e : x ≡ numberRead (getD (layout current) k noSlot) bs) (i : x ≡ number.Inside n) where
-    below-high : (high : ℕ) → getD (layout current) k noSlot .high < high → n < high
-    below-high high h = let l = read-high _ bs n (told-inside _ bs x n e i) in omega arith
+  module _ (k : ℕ) (t : Slot) (x : Number) (n : ℕ) (q : t ≡ getD scalarSlots k noSlot) (e : x ≡ numberRead t bs) (i : x ≡ number.Inside n) where
+    below-high : (high : ℕ) → getD scalarSlots k noSlot .high < high → n < high
+    below-high high h = let l = read-high (getD scalarSlots k noSlot) bs n (place-told k t x n q e i) in omega arith
 
     pub is-byte : k < 5 → n < 256
-    unfolding layout slotsFrom
-    is-byte h = below-high 256 (ltb-true _ _ (holds-below (λ (j : ℕ). ltb (getD (layout current) j noSlot .high) 256) 5 refl k h))
+    unfolding slotsFrom
+    is-byte h = below-high 256 (ltb-true _ _ (holds-below (λ (j : ℕ). ltb (getD scalarSlots j noSlot .high) 256) 5 refl k h))
 
     pub is-two-bytes : k ≡ 7 → n < 65536
-    unfolding layout slotsFrom
-    is-two-bytes h = let l : getD (layout current) k noSlot .high ≡ 9999 = ap (λ (j : ℕ). getD (layout current) j noSlot .high) h in below-high 65536 (omega arith)
+    unfolding slotsFrom
+    is-two-bytes h = let l : getD scalarSlots k noSlot .high ≡ 9999 = ap (λ (j : ℕ). getD scalarSlots j noSlot .high) h in below-high 65536 (omega arith)
 
-  module _ (x₀ x₁ x₂ x₃ x₄ x₅ x₆ x₇ : Number) (n₀ n₁ n₂ n₃ n₄ n₅ n₆ n₇ : ℕ)
-      (e₀ : x₀ ≡ numberRead (getD (layout current) 0 noSlot) bs) (i₀ : x₀ ≡ number.Inside n₀)
-      (e₁ : x₁ ≡ numberRead (getD (layout current) 1 noSlot) bs) (i₁ : x₁ ≡ number.Inside n₁)
-      (e₂ : x₂ ≡ numberRead (getD (layout current) 2 noSlot) bs) (i₂ : x₂ ≡ number.Inside n₂)
-      (e₃ : x₃ ≡ numberRead (getD (layout current) 3 noSlot) bs) (i₃ : x₃ ≡ number.Inside n₃)
-      (e₄ : x₄ ≡ numberRead (getD (layout current) 4 noSlot) bs) (i₄ : x₄ ≡ number.Inside n₄)
-      (e₅ : x₅ ≡ numberRead (getD (layout current) 5 noSlot) bs) (i₅ : x₅ ≡ number.Inside n₅)
-      (e₆ : x₆ ≡ numberRead (getD (layout current) 6 noSlot) bs) (i₆ : x₆ ≡ number.Inside n₆)
-      (e₇ : x₇ ≡ numberRead (getD (layout current) 7 noSlot) bs) (i₇ : x₇ ≡ number.Inside n₇) where
+  module _ (t₀ t₁ t₂ t₃ t₄ t₅ t₆ t₇ : Slot) (x₀ x₁ x₂ x₃ x₄ x₅ x₆ x₇ : Number) (n₀ n₁ n₂ n₃ n₄ n₅ n₆ n₇ : ℕ)
+      (q₀ : t₀ ≡ getD scalarSlots 0 noSlot) (e₀ : x₀ ≡ numberRead t₀ bs) (i₀ : x₀ ≡ number.Inside n₀)
+      (q₁ : t₁ ≡ getD scalarSlots 1 noSlot) (e₁ : x₁ ≡ numberRead t₁ bs) (i₁ : x₁ ≡ number.Inside n₁)
+      (q₂ : t₂ ≡ getD scalarSlots 2 noSlot) (e₂ : x₂ ≡ numberRead t₂ bs) (i₂ : x₂ ≡ number.Inside n₂)
+      (q₃ : t₃ ≡ getD scalarSlots 3 noSlot) (e₃ : x₃ ≡ numberRead t₃ bs) (i₃ : x₃ ≡ number.Inside n₃)
+      (q₄ : t₄ ≡ getD scalarSlots 4 noSlot) (e₄ : x₄ ≡ numberRead t₄ bs) (i₄ : x₄ ≡ number.Inside n₄)
+      (q₅ : t₅ ≡ getD scalarSlots 5 noSlot) (e₅ : x₅ ≡ numberRead t₅ bs) (i₅ : x₅ ≡ number.Inside n₅)
+      (q₆ : t₆ ≡ getD scalarSlots 6 noSlot) (e₆ : x₆ ≡ numberRead t₆ bs) (i₆ : x₆ ≡ number.Inside n₆)
+      (q₇ : t₇ ≡ getD scalarSlots 7 noSlot) (e₇ : x₇ ≡ numberRead t₇ bs) (i₇ : x₇ ≡ number.Inside n₇) where
     all-inside : takenFrom headerWidth scalarItems bs lowRecord ≡ (done, putAll scalarItems (n₀ ∷ n₁ ∷ n₂ ∷ n₃ ∷ n₄ ∷ n₅ ∷ n₆ ∷ n₇ ∷ []) lowRecord)
-    unfolding layout slotsFrom
+    unfolding slotsFrom
     all-inside =
-        all-read bs headerWidth scalarItems (n₀ ∷ n₁ ∷ n₂ ∷ n₃ ∷ n₄ ∷ n₅ ∷ n₆ ∷ n₇ ∷ []) lowRecord (
-          told-inside _ bs x₀ n₀ e₀ i₀,
-          (
-            told-inside _ bs x₁ n₁ e₁ i₁,
-            (
-              told-inside _ bs x₂ n₂ e₂ i₂,
-              (
-                told-inside _ bs x₃ n₃ e₃ i₃,
-                (
-                  told-inside _ bs x₄ n₄ e₄ i₄,
-                  (told-inside _ bs x₅ n₅ e₅ i₅, (told-inside _ bs x₆ n₆ e₆ i₆, (told-inside _ bs x₇ n₇ e₇ i₇, tt))),
-                ),
-              ),
-            ),
-          ),
-        )
+        all-read bs headerWidth scalarItems (n₀ ∷ n₁ ∷ n₂ ∷ n₃ ∷ n₄ ∷ n₅ ∷ n₆ ∷ n₇ ∷ []) lowRecord (place-told 0 t₀ x₀ n₀ q₀ e₀ i₀, (place-told 1 t₁ x₁ n₁ q₁ e₁ i₁, (place-told 2 t₂ x₂ n₂ q₂ e₂ i₂, (place-told 3 t₃ x₃ n₃ q₃ e₃ i₃, (place-told 4 t₄ x₄ n₄ q₄ e₄ i₄, (place-told 5 t₅ x₅ n₅ q₅ e₅ i₅, (place-told 6 t₆ x₆ n₆ q₆ e₆ i₆, (place-told 7 t₇ x₇ n₇ q₇ e₇ i₇, tt))))))))
 
     -- the record that the code makes of them
-    pub body-inside : (p : Phase) (low : Record) (a : Outcome) (s : Record) → p ≡ phaseOf n₂ → low ≡ lowRecord
-        → (a, s) ≡ takenFrom parametersAt (parameterItems parameterCount) bs
-        (record {
+    abbrev made : Phase → List ℕ → List ℕ → Record
+    made p vs ls =
+        record {
           address = n₀;
           access = n₁;
           phase = p;
@@ -323,35 +454,44 @@ module _ (bs : List ℕ) where
           preset = n₅;
           raw = n₆;
           number = n₇;
-          values = low .values;
-          levels = low .levels;
-        })
-        → (a, s) ≡ bodyOf bs
-    unfolding bodyOf putAll putBits put
-    body-inside p low a s f l e =
+          values = vs;
+          levels = ls;
+        }
+
+    -- with every parameter at its low end it is what the numbers make of the low record
+    made-is : putAll scalarItems (n₀ ∷ n₁ ∷ n₂ ∷ n₃ ∷ n₄ ∷ n₅ ∷ n₆ ∷ n₇ ∷ []) lowRecord ≡ made (phaseOf n₂) (lowRecord .values) (lowRecord .levels)
+    unfolding putAll putBits put
+    made-is =
         let q₂ : n₃ / 2 / 2 ≡ n₃ / 4 = quarter n₃ in
         let q₃ : n₃ / 2 / 2 / 2 ≡ n₃ / 8 = ap (λ (m : ℕ). m / 2) q₂ ∙ eighth n₃ in
         let q₄ : n₃ / 2 / 2 / 2 / 2 ≡ n₃ / 16 = ap (λ (m : ℕ). m / 2) q₃ ∙ sixteenth n₃ in
-        e ∙
-        (ap (takenFrom parametersAt (parameterItems parameterCount) bs)
-        (λ i.
+        λ i.
         record {
           address = n₀;
           access = n₁;
-          phase = f i;
+          phase = phaseOf n₂;
           keypad = flagOf (n₃ % 2);
           flow = flagOf (n₃ / 2 % 2);
-          changed = flagOf (sym q₂ i % 2);
-          reset = flagOf (sym q₃ i % 2);
-          powerfail = flagOf (sym q₄ i % 2);
+          changed = flagOf (q₂ i % 2);
+          reset = flagOf (q₃ i % 2);
+          powerfail = flagOf (q₄ i % 2);
           recipe = n₄;
           preset = n₅;
           raw = n₆;
           number = n₇;
-          values = l i .values;
-          levels = l i .levels;
-        }) ∙
-        sym (taken-done bs headerWidth scalarItems (parameterItems parameterCount) lowRecord _ all-inside))
+          values = lowRecord .values;
+          levels = lowRecord .levels;
+        }
+
+    pub body-inside : (p : Phase) (vs ls : List ℕ) (a : Outcome) (s : Record) → length vs ≡ parameterCount → length ls ≡ parameterCount → p ≡ phaseOf n₂
+        → (a, s) ≡ takenFrom parametersAt (parameterItems parameterCount) bs (made p vs ls) → (a, s) ≡ bodyOf bs
+    unfolding bodyOf lowRecord recordFrom
+    body-inside p vs ls a s lv ll f e =
+        e ∙
+        (ap (λ (h : Phase). taken bs (made h vs ls) parameterCount) f ∙
+        (lists-new bs (made (phaseOf n₂) vs ls) vs ls (lowRecord .values) (lowRecord .levels) lv ll (listed-length _ parameterCount) (listed-length _ parameterCount) ∙
+        (ap (λ (r : Record). taken bs r parameterCount) (sym made-is) ∙
+        sym (taken-done bs headerWidth scalarItems (parameterItems parameterCount) lowRecord _ all-inside))))
 
 -- ---- all
 first-done : (b : Bool) (k : ℕ) (o : Outcome) → done ≡ unless b (K k) o → b ≡ true

@@ -17,11 +17,11 @@ use Rattle.state.specs.Parameter.{parameterCount}
 use Rattle.state.specs.Field.{value, level, phaseNumber}
 use Rattle.state.specs.Valid.{valid}
 use Rattle.stored.specs.declared.Slot.{Slot}
-use Rattle.stored.specs.Layout.{Item, alone, together, scalarItems, parameterItems, current, items, headerWidth, itemWidth, totalWidth, parametersAt, itemSlot, slotsFrom, layout, noSlot, itemNumber, numbersOf, bits, flagFields}
+use Rattle.stored.specs.Layout.{Item, alone, together, scalarItems, parameterItems, current, items, headerWidth, itemWidth, totalWidth, parametersAt, itemSlot, slotsFrom, scalarSlots, noSlot, itemNumber, numbersOf, bits, flagFields}
 use Rattle.stored.specs.Form.{K, done, bigEndian, pack, packed, stored, storedLength, heading, storedForm, writeOf}
 use Rattle.stored.proofs.ListLaws.{map-append}
 use Rattle.stored.proofs.Bytes.{big-length, sets-append, sets-next, sets-over, part-filled}
-use Rattle.stored.proofs.Slots.{pair, parameters-width, slots-length, slot-ends, stored-177, before-parameters, value-slot, level-slot, Others, last-place}
+use Rattle.stored.proofs.Slots.{pair, parameters-width, stored-177, Others, last-place}
 
 -- ---- the numbers of a list of items
 pub numbers-length : (xs : List Item) (r : Record) → length (numbersOf xs r) ≡ length xs
@@ -74,16 +74,12 @@ store-next at (x ∷ xs) (n ∷ ns) (suc k) o z h l e =
     store-next (at + itemWidth x) xs ns k (sets o at f) z (le-of-suc-le-suc h) (omega arith) (e ∙ sym (back (pack (take k xs) (take k ns))))
     ∙ back (pack (take (suc k) xs) (take (suc k) ns))
 
-module _ (s : Slot) (k n : ℕ) (o ys : List ℕ) (place : k < length (layout current)) (room : storedLength current ≤ length o) (e : s ≡ getD (layout current) k noSlot)
-    (filled : ys ≡ bigEndian (length (take (s .at + s .width - s .at) (drop (s .at) o))) n) where
-  put-is : putMid (s .at) (s .at + s .width - s .at) o ys ≡ stored (getD (layout current) k noSlot) n o
-  put-is =
-      let h = slot-ends e place in
-      part-filled (s .at) (s .width) n o ys (omega arith) filled ∙ ap (λ (t : Slot). stored t n o) e
+module _ (s : Slot) (n : ℕ) (o ys : List ℕ) (room : s .at + s .width ≤ length o) (filled : ys ≡ bigEndian (length (take (s .at + s .width - s .at) (drop (s .at) o))) n) where
+  put-is : putMid (s .at) (s .at + s .width - s .at) o ys ≡ stored s n o
+  put-is = part-filled (s .at) (s .width) n o ys room filled
 
-  pub number-put : (length (putMid (s .at) (s .at + s .width - s .at) o ys) ≡ length o) × (putMid (s .at) (s .at + s .width - s .at) o ys ≡ stored (getD (layout current) k noSlot) n o)
-  number-put =
-      let t : Slot = getD (layout current) k noSlot in (ap length put-is ∙ length-sets o (t .at) (bigEndian (t .width) n), put-is)
+  pub number-put : (length (putMid (s .at) (s .at + s .width - s .at) o ys) ≡ length o) × (putMid (s .at) (s .at + s .width - s .at) o ys ≡ stored s n o)
+  number-put = (ap length put-is ∙ length-sets o (s .at) (bigEndian (s .width) n), put-is)
 
 -- ---- the numbers before the parameters'
 abbrev pub Scalars : Record → ℕ → List ℕ → List ℕ → Type 0
@@ -93,17 +89,11 @@ pub scalars-none : (r : Record) (o : List ℕ) → Scalars r 0 o o
 unfolding pack
 scalars-none r o = refl
 
-scalar-slot : (k : ℕ) → k < 8 → getD (layout current) k noSlot ≡ getD (slotsFrom headerWidth scalarItems) k noSlot
-unfolding slotsFrom
-scalar-slot k h =
-    ap (λ (ss : List Slot). getD ss k noSlot) before-parameters ∙
-    List·getD-append (slotsFrom headerWidth scalarItems) (slotsFrom parametersAt (parameterItems parameterCount)) noSlot k h
-
-pub scalars-more : (r : Record) (k n : ℕ) (o y z : List ℕ) → k < 8 → n ≡ getD (numbersOf scalarItems r) k 0 → Scalars r k o y
-    → z ≡ stored (getD (layout current) k noSlot) n y → Scalars r (k + 1) o z
-scalars-more r k n o y z h e q p =
-    p ∙ (ap (λ (m : ℕ). stored (getD (layout current) k noSlot) m y) e ∙
-    (ap (λ (s : Slot). stored s (getD (numbersOf scalarItems r) k 0) y) (scalar-slot k h) ∙
+pub scalars-more : (r : Record) (k n : ℕ) (s : Slot) (o y z : List ℕ) → k < 8 → n ≡ getD (numbersOf scalarItems r) k 0 → s ≡ getD scalarSlots k noSlot → Scalars r k o y
+    → z ≡ stored s n y → Scalars r (k + 1) o z
+scalars-more r k n s o y z h e i q p =
+    p ∙ (ap (λ (m : ℕ). stored s m y) e ∙
+    (ap (λ (t : Slot). stored t (getD (numbersOf scalarItems r) k 0) y) i ∙
     (store-next headerWidth scalarItems (numbersOf scalarItems r) k o y h (numbers-length scalarItems r) q ∙
     ap (λ (j : ℕ). sets o headerWidth (pack (take j scalarItems) (take j (numbersOf scalarItems r)))) (sym (add-one k)))))
 
@@ -113,6 +103,14 @@ scalars-all r k o z l h e =
     let q : k ≡ 8 = omega arith in e ∙ ap (λ (j : ℕ). sets o headerWidth (pack (take j scalarItems) (take j (numbersOf scalarItems r)))) q
 
 -- ---- the parameters'
+
+-- where their slots end
+pub value-fits : (i : ℕ) (s : Slot) → s ≡ itemSlot (parametersAt + 5 * i) (alone 4 (value i)) → s .at + s .width ≡ 21 + 5 * i
+value-fits i s e = let a = ap (λ (t : Slot). t .at) e in let w = ap (λ (t : Slot). t .width) e in omega arith
+
+pub level-fits : (i : ℕ) (s : Slot) → s ≡ itemSlot (parametersAt + 5 * i + 4) (alone 1 (level i)) → s .at + s .width ≡ 22 + 5 * i
+level-fits i s e = let a = ap (λ (t : Slot). t .at) e in let w = ap (λ (t : Slot). t .width) e in omega arith
+
 abbrev pub Parameters : Record → ℕ → List ℕ → List ℕ → Type 0
 Parameters r i o z = z ≡ sets o parametersAt (packed (parameterItems i) r)
 
@@ -120,11 +118,11 @@ pub parameters-none : (r : Record) (o : List ℕ) → Parameters r 0 o o
 unfolding pack numbersOf
 parameters-none r o = refl
 
-pub parameters-more : (r : Record) (i n m : ℕ) (o y x z : List ℕ) → i < parameterCount → Parameters r i o y
-    → n ≡ getD (r .values) i 0 → x ≡ stored (getD (layout current) (8 + 2 * i) noSlot) n y
-    → m ≡ getD (r .levels) i 0 → z ≡ stored (getD (layout current) (8 + 2 * i + 1) noSlot) m x → Parameters r (i + 1) o z
+pub parameters-more : (r : Record) (i n m : ℕ) (s t : Slot) (o y x z : List ℕ) → i < parameterCount → Parameters r i o y
+    → n ≡ getD (r .values) i 0 → s ≡ itemSlot (parametersAt + 5 * i) (alone 4 (value i)) → x ≡ stored s n y
+    → m ≡ getD (r .levels) i 0 → t ≡ itemSlot (parametersAt + 5 * i + 4) (alone 1 (level i)) → z ≡ stored t m x → Parameters r (i + 1) o z
 unfolding pack numbersOf bigEndian
-parameters-more r i n m o y x z h q en ex em ez =
+parameters-more r i n m s t o y x z h q en es ex em et ez =
     let v : ℕ = getD (r .values) i 0 in
     let l : ℕ = getD (r .levels) i 0 in
     let f : List ℕ = packed (parameterItems i) r in
@@ -132,9 +130,9 @@ parameters-more r i n m o y x z h q en ex em ez =
     let b : length (bigEndian 4 v) ≡ 4 = big-length 4 v in
     let c : length (f ++ bigEndian 4 v) ≡ 5 * i + 4 = length-append f (bigEndian 4 v) ∙ omega arith in
     let x₁ : x ≡ sets y (parametersAt + 5 * i) (bigEndian 4 v) =
-    ex ∙ (ap (λ (k : ℕ). stored (getD (layout current) (8 + 2 * i) noSlot) k y) en ∙ ap (λ (s : Slot). stored s v y) (value-slot i (8 + 2 * i) h refl)) in
+    ex ∙ (ap (λ (k : ℕ). stored s k y) en ∙ ap (λ (u : Slot). stored u v y) es) in
     let z₁ : z ≡ sets x (parametersAt + 5 * i + 4) (bigEndian 1 l) =
-    ez ∙ (ap (λ (k : ℕ). stored (getD (layout current) (8 + 2 * i + 1) noSlot) k x) em ∙ ap (λ (s : Slot). stored s l x) (level-slot i (8 + 2 * i + 1) h refl)) in
+    ez ∙ (ap (λ (k : ℕ). stored t k x) em ∙ ap (λ (u : Slot). stored u l x) et) in
     let x₂ : x ≡ sets o parametersAt (f ++ bigEndian 4 v) = x₁ ∙ sets-next o y parametersAt (parametersAt + 5 * i) f (bigEndian 4 v) q (omega arith) in
     let z₂ : z ≡ sets o parametersAt ((f ++ bigEndian 4 v) ++ bigEndian 1 l) =
     z₁ ∙ sets-next o x parametersAt (parametersAt + 5 * i + 4) (f ++ bigEndian 4 v) (bigEndian 1 l) x₂ (omega arith) in

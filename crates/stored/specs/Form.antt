@@ -8,7 +8,7 @@ use lib.Seq.{sets}
 use Rattle.base.specs.Test.{unless, pick, between}
 use Rattle.base.specs.Lists.{over}
 use Rattle.state.specs.declared.Record.{Record}
-use Rattle.state.specs.Field.{fieldRange, recordFrom}
+use Rattle.state.specs.Field.{value, level, fieldRange, recordFrom}
 use Rattle.state.specs.Valid.{valid}
 use Rattle.stored.specs.declared.Slot.{Slot}
 use Rattle.stored.specs.declared.Refusal.{Refusal}
@@ -21,7 +21,9 @@ use Rattle.stored.specs.declared.Answer.{Answer}
 use Rattle.stored.specs.declared.Answer.the-variants as answer
 use Rattle.stored.specs.declared.Number.{Number}
 use Rattle.stored.specs.declared.Number.the-variants as number
-use Rattle.stored.specs.Layout.{Item, current, items, itemWidth, totalWidth, headerWidth, slotsFrom, numbersOf, putAll}
+use Rattle.stored.specs.declared.Parameter.{Parameter}
+use Rattle.stored.specs.declared.Parameter.the-variants as parameter
+use Rattle.stored.specs.Layout.{Item, alone, current, items, itemWidth, totalWidth, headerWidth, parametersAt, itemSlot, slotsFrom, numbersOf, putAll}
 
 -- ---- the code's answers as document 01 numbers them: K1 to K6, or done
 pub data Outcome : Type 0 where
@@ -141,3 +143,13 @@ readOf bs = afterHeader (headerOf bs) bs
 -- the number in a slot, if it lies in its range
 unfoldable pub numberRead : Slot → List ℕ → Number
 numberRead s bs = unless (inSlot s (numberAt bs s)) number.Outside (number.Inside (numberAt bs s))
+
+-- the value and the level of the parameter at place i, if both do
+abbrev pub pairRead : Number → Number → Parameter
+pairRead number.Outside l = parameter.Outside
+pairRead (number.Inside v) number.Outside = parameter.Outside
+pairRead (number.Inside v) (number.Inside l) = parameter.Inside v l
+
+unfoldable pub parameterRead : ℕ → List ℕ → Parameter
+parameterRead i bs =
+    pairRead (numberRead (itemSlot (parametersAt + 5 * i) (alone 4 (value i))) bs) (numberRead (itemSlot (parametersAt + 5 * i + 4) (alone 1 (level i))) bs)

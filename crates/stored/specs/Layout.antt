@@ -60,8 +60,8 @@ unfoldable pub slotsFrom : ℕ → List Item → List Slot
 slotsFrom at [] = []
 slotsFrom at (x ∷ xs) = itemSlot at x ∷ slotsFrom (at + itemWidth x) xs
 
-unfoldable pub layout : ℕ → List Slot
-layout version = slotsFrom headerWidth (items version)
+abbrev pub scalarSlots : List Slot
+scalarSlots = slotsFrom headerWidth scalarItems
 
 -- where the parameters' numbers begin
 abbrev pub parametersAt : ℕ

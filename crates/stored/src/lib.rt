@@ -3,15 +3,16 @@ use base::wide;
 use state::PARAMETERS;
 use state::Phase;
 use state::RECIPES;
+use state::Range;
 use state::Record;
 ghost use mathlib.Core.Path.{_≡_};
 ghost use Prim.Native.Nat.{_+_, _*_, _≤_, _<_};
 ghost use lib.ListN.{length, getD};
 ghost use lib.Seq.{sets};
-ghost use Rattle.state.specs.Parameter.{parameterCount};
+ghost use Rattle.state.specs.Parameter.{parameterCount, rangeAt};
 ghost use Rattle.state.specs.Field.{value, level, phaseOf, flagNumber};
-ghost use Rattle.stored.specs.Layout.{alone, scalarItems, parameterItems, current, headerWidth, parametersAt, itemSlot, slotOf, layout, noSlot, flagFields, bits, numbersOf};
-ghost use Rattle.stored.specs.Form.{headerAs, answerAs, writtenAs, refusalNumber, K, bigEndian, numberOf, packed, stored, storedLength, heading, writeOf, headerOf, lowRecord, takenFrom, bodyOf, readOf, numberRead};
+ghost use Rattle.stored.specs.Layout.{alone, scalarItems, parameterItems, current, headerWidth, parametersAt, itemSlot, slotOf, scalarSlots, noSlot, flagFields, bits, numbersOf};
+ghost use Rattle.stored.specs.Form.{headerAs, answerAs, writtenAs, refusalNumber, K, bigEndian, numberOf, packed, stored, storedLength, heading, writeOf, headerOf, lowRecord, takenFrom, bodyOf, readOf, numberRead, parameterRead};
 
 // The version that is written.
 pub const VERSION: u8 = 1;
@@ -37,8 +38,6 @@ const RAW: usize = 6;
 const NUMBER: usize = 7;
 
 const SCALARS: usize = 8;
-
-const NUMBERS: usize = SCALARS + 2 * PARAMETERS;
 
 // Where the parameters' numbers begin.
 const PARAMETERS_AT: usize = HEADER + 14;
@@ -78,6 +77,12 @@ pub enum Number {
     Outside,
 }
 
+// What a parameter's reader answers: its value and its level.
+pub enum Parameter {
+    Inside(u32, u8),
+    Outside,
+}
+
 // What reading answers, beside the record.
 pub enum Answer {
     Whole,
@@ -98,48 +103,7 @@ pub enum Written {
     Whole,
 }
 
-// ---- the layout: the one table that reading and writing go by
-
-// How many bytes a version takes; 0 for a version that is not known.
-pub fn stored_length(version: u8) -> usize
-    ensures { λ n. ⌜ n ≡ storedLength version ⌝ }
-{
-    if version == VERSION {
-        return STORED_LENGTH;
-    }
-    0
-}
-
-// The slot of the number at a place of a version's layout; an empty one beyond the last.
-pub fn slot_at(version: u8, place: usize) -> Slot
-    ensures { λ s. ⌜ s ≡ getD (layout version) place noSlot ⌝ }
-{
-    if version != VERSION {
-        return nowhere();
-    }
-    if place < SCALARS {
-        return scalar_slot(place);
-    }
-    if NUMBERS <= place {
-        return nowhere();
-    }
-    let i = (place - SCALARS) / 2;
-    if (place - SCALARS) % 2 == 1 {
-        return level_slot(i);
-    }
-    value_slot(i)
-}
-
-fn nowhere() -> Slot
-    ensures { λ s. ⌜ s ≡ noSlot ⌝ }
-{
-    Slot {
-        at: 0,
-        width: 0,
-        low: 0,
-        high: 0,
-    }
-}
+// ---- the layout: the slots that reading and writing go by
 
 fn slot_of(at: usize, width: usize, low: u32, high: u32) -> Slot
     ensures { λ s. ⌜ s ≡ slotOf at width low high ⌝ }
@@ -152,9 +116,10 @@ fn slot_of(at: usize, width: usize, low: u32, high: u32) -> Slot
     }
 }
 
+// The slot of the number at a place before the parameters'.
 fn scalar_slot(place: usize) -> Slot
     requires { ⌜ place < 8 ⌝ }
-    ensures { λ s. ⌜ s ≡ getD (layout current) place noSlot ⌝ }
+    ensures { λ s. ⌜ s ≡ getD scalarSlots place noSlot ⌝ }
 {
     match place {
         ADDRESS => slot_of(3, 1, 1, 99),
@@ -168,11 +133,11 @@ fn scalar_slot(place: usize) -> Slot
     }
 }
 
-fn value_slot(i: usize) -> Slot
-    requires { ⌜ i < parameterCount ⌝ }
+// The slot of the value of the parameter at a place, with its range.
+fn value_slot(i: usize, range: Range) -> Slot
+    requires { ⌜ (i < parameterCount) × (range ≡ rangeAt i) ⌝ }
     ensures { λ s. ⌜ s ≡ itemSlot (parametersAt + 5 * i) (alone 4 (value i)) ⌝ }
 {
-    let range = state::range_at(i);
     slot_of(PARAMETERS_AT + 5 * i, 4, range.low, range.high)
 }
 
@@ -242,12 +207,11 @@ fn put_header(out: &mut [u8])
     fill(STORED_LENGTH as u32, &mut out[1..3]);
 }
 
-// Stores the number at a place of the layout.
-fn put_number(n: u32, place: usize, out: &mut [u8])
-    requires { ⌜ (place < length (layout current)) × (storedLength current ≤ length (now out)) ⌝ }
-    ensures { λ _. ⌜ (length (now (out .exit)) ≡ length (now (out .entry))) × (now (out .exit) ≡ stored (getD (layout current) place noSlot) n (now (out .entry))) ⌝ }
+// Stores a number in its slot.
+fn put_number(n: u32, slot: Slot, out: &mut [u8])
+    requires { ⌜ slot .at + slot .width ≤ length (now out) ⌝ }
+    ensures { λ _. ⌜ (length (now (out .exit)) ≡ length (now (out .entry))) × (now (out .exit) ≡ stored slot n (now (out .entry))) ⌝ }
 {
-    let slot = slot_at(VERSION, place);
     let at = slot.at;
     let end = at + slot.width;
     fill(n, &mut out[at..end]);
@@ -278,7 +242,7 @@ fn put_scalars(r: Record, out: &mut [u8])
 {
     let mut place = 0;
     while place < SCALARS {
-        put_number(scalar(r, place), place, out);
+        put_number(scalar(r, place), scalar_slot(place), out);
         place += 1;
     }
 }
@@ -290,8 +254,8 @@ fn put_parameters(r: Record, out: &mut [u8])
 {
     let mut i = 0;
     while i < PARAMETERS {
-        put_number(r.values[i], SCALARS + 2 * i, out);
-        put_number(wide(r.levels[i]), SCALARS + 2 * i + 1, out);
+        put_number(r.values[i], value_slot(i, state::range_at(i)), out);
+        put_number(wide(r.levels[i]), level_slot(i), out);
         i += 1;
     }
 }
@@ -330,12 +294,11 @@ fn read_header(s: &[u8]) -> Header
     Header::Good
 }
 
-// Reads the number at a place of the layout, which must lie in its slot's range.
-fn read_number(s: &[u8], place: usize) -> Number
-    requires { ⌜ (place < length (layout current)) × (length (now s) ≡ storedLength current) ⌝ }
-    ensures { λ n. ⌜ n ≡ numberRead (getD (layout current) place noSlot) (now (s .entry)) ⌝ }
+// Reads the number in a slot, which must lie in its range.
+fn read_number(s: &[u8], slot: Slot) -> Number
+    requires { ⌜ (slot .at + slot .width ≤ length (now s)) × (slot .width ≤ 4) ⌝ }
+    ensures { λ n. ⌜ n ≡ numberRead slot (now (s .entry)) ⌝ }
 {
-    let slot = slot_at(VERSION, place);
     let at = slot.at;
     let end = at + slot.width;
     let n = number_in(&s[at..end]);
@@ -396,22 +359,47 @@ fn refused(refusal: Refusal) -> Reading
     }
 }
 
-// Reads the parameters' numbers into a record.
+// Reads the value and the level of the parameter at a place.
+fn read_parameter(s: &[u8], i: usize, range: Range) -> Parameter
+    requires { ⌜ (i < parameterCount) × (length (now s) ≡ storedLength current) × (range ≡ rangeAt i) ⌝ }
+    ensures { λ p. ⌜ p ≡ parameterRead i (now (s .entry)) ⌝ }
+{
+    let Number::Inside(value) = read_number(s, value_slot(i, range)) else {
+        return Parameter::Outside;
+    };
+    let Number::Inside(level) = read_number(s, level_slot(i)) else {
+        return Parameter::Outside;
+    };
+    Parameter::Inside(value, level as u8)
+}
+
+// Reads the parameters' numbers into a record: each recipe's have the ranges of the first's.
 fn read_parameters(s: &[u8], before: Record) -> Reading
     requires { ⌜ length (now s) ≡ storedLength current ⌝ }
     ensures { λ r. ⌜ (answerAs (r .answer), r .record) ≡ takenFrom parametersAt (parameterItems parameterCount) (now (s .entry)) before ⌝ }
 {
     let mut filled = before;
-    let mut i = 0;
+    let mut recipe = 0;
+    while recipe < RECIPES {
+        let mut kind = 0;
+        while kind < 3 {
+            let i = 3 * recipe + kind;
+            let Parameter::Inside(value, level) = read_parameter(s, i, state::range_at(kind)) else {
+                return refused(Refusal::Field);
+            };
+            filled.values[i] = value;
+            filled.levels[i] = level;
+            kind += 1;
+        }
+        recipe += 1;
+    }
+    let mut i = 3 * RECIPES;
     while i < PARAMETERS {
-        let Number::Inside(value) = read_number(s, SCALARS + 2 * i) else {
-            return refused(Refusal::Field);
-        };
-        let Number::Inside(level) = read_number(s, SCALARS + 2 * i + 1) else {
+        let Parameter::Inside(value, level) = read_parameter(s, i, state::range_at(i)) else {
             return refused(Refusal::Field);
         };
         filled.values[i] = value;
-        filled.levels[i] = level as u8;
+        filled.levels[i] = level;
         i += 1;
     }
     Reading {
@@ -425,33 +413,32 @@ fn read_numbers(s: &[u8]) -> Reading
     requires { ⌜ length (now s) ≡ storedLength current ⌝ }
     ensures { λ r. ⌜ (answerAs (r .answer), r .record) ≡ bodyOf (now (s .entry)) ⌝ }
 {
-    let Number::Inside(address) = read_number(s, ADDRESS) else {
+    let Number::Inside(address) = read_number(s, scalar_slot(ADDRESS)) else {
         return refused(Refusal::Field);
     };
-    let Number::Inside(access) = read_number(s, ACCESS) else {
+    let Number::Inside(access) = read_number(s, scalar_slot(ACCESS)) else {
         return refused(Refusal::Field);
     };
-    let Number::Inside(phase) = read_number(s, PHASE) else {
+    let Number::Inside(phase) = read_number(s, scalar_slot(PHASE)) else {
         return refused(Refusal::Field);
     };
-    let Number::Inside(flags) = read_number(s, FLAGS) else {
+    let Number::Inside(flags) = read_number(s, scalar_slot(FLAGS)) else {
         return refused(Refusal::Field);
     };
-    let Number::Inside(recipe) = read_number(s, RECIPE) else {
+    let Number::Inside(recipe) = read_number(s, scalar_slot(RECIPE)) else {
         return refused(Refusal::Field);
     };
-    let Number::Inside(preset) = read_number(s, PRESET) else {
+    let Number::Inside(preset) = read_number(s, scalar_slot(PRESET)) else {
         return refused(Refusal::Field);
     };
-    let Number::Inside(raw) = read_number(s, RAW) else {
+    let Number::Inside(raw) = read_number(s, scalar_slot(RAW)) else {
         return refused(Refusal::Field);
     };
-    let Number::Inside(number) = read_number(s, NUMBER) else {
+    let Number::Inside(number) = read_number(s, scalar_slot(NUMBER)) else {
         return refused(Refusal::Field);
     };
-    let low = low_record();
-    let values = low.values;
-    let levels = low.levels;
+    let values = [0u32; PARAMETERS];
+    let levels = [0u8; PARAMETERS];
     read_parameters(
         s,
         Record {

@@ -4,15 +4,18 @@ use mathlib.Core.Path.{_≡_, refl}
 use native.Mathlib.Omega.{arith}
 use lib.ListN.{length}
 use Rattle.state.specs.Parameter.{parameterCount}
-use Rattle.stored.proofs.Writing.{Parameters, parameters-none, parameters-more, parameters-all}
-use Rattle.stored.proofs.Slots.{layout-length}
+use Rattle.stored.proofs.Writing.{value-fits, level-fits, Parameters, parameters-none, parameters-more, parameters-all}
+use Rattle.stored.proofs.Slots.{stored-177}
 use borrow.Author.Needs.{needs}
 use Rattle.stored.proofs.put_parameters.Statement.{statement}
 use Rattle.stored.proofs.put_parameters.Tie as tie
 use Rattle.stored.proofs.put_parameters.Reads as reads
 use Rattle.stored.proofs.put_parameters.Lts as lts
 use Rattle.base.proofs.wide.Reads as wide-reads
+use Rattle.state.proofs.range_at.Reads as range-at-reads
+use Rattle.stored.proofs.level_slot.Reads as level-slot-reads
 use Rattle.stored.proofs.put_number.Reads as put-number-reads
+use Rattle.stored.proofs.value_slot.Reads as value-slot-reads
 
 abbrev Inv-loop : tie.InvT-loop
 Inv-loop out₀ r i₀ out i = (i ≤ parameterCount) × ((length out ≡ length out₀) × Parameters r i out₀ out)
@@ -29,14 +32,14 @@ mul-put-number c = search needs
 element-copy-out-put-number : tie.Need-element-copy-out-put-number Inv-loop μ-loop
 element-copy-out-put-number c = search needs
 
-mul-put-number-2 : tie.Need-mul-put-number-2 Inv-loop μ-loop
-mul-put-number-2 c = search needs
+range-at-requires : tie.Need-range-at-requires Inv-loop μ-loop
+range-at-requires c κs = search needs
 
-add-put-number : tie.Need-add-put-number Inv-loop μ-loop
-add-put-number c = search needs
+value-slot-requires : tie.Need-value-slot-requires Inv-loop μ-loop
+value-slot-requires c κs = search needs
 
 put-number-requires : tie.Need-put-number-requires Inv-loop μ-loop
-put-number-requires c κs = (omega (arith, layout-length), omega arith)
+put-number-requires c κs = omega (arith, stored-177, value-fits _ _ (c .before .value-slot .ensures))
 
 element-copy-out-wide : tie.Need-element-copy-out-wide Inv-loop μ-loop
 element-copy-out-wide c = search needs
@@ -44,17 +47,11 @@ element-copy-out-wide c = search needs
 wide-requires : tie.Need-wide-requires Inv-loop μ-loop
 wide-requires c κs = search needs
 
-mul-put-number-3 : tie.Need-mul-put-number-3 Inv-loop μ-loop
-mul-put-number-3 c = search needs
-
-add-put-number-2 : tie.Need-add-put-number-2 Inv-loop μ-loop
-add-put-number-2 c = search needs
-
-add-put-number-3 : tie.Need-add-put-number-3 Inv-loop μ-loop
-add-put-number-3 c = search needs
+level-slot-requires : tie.Need-level-slot-requires Inv-loop μ-loop
+level-slot-requires c κs = search needs
 
 put-number-requires-2 : tie.Need-put-number-requires-2 Inv-loop μ-loop
-put-number-requires-2 c κs = (omega (arith, layout-length), omega arith)
+put-number-requires-2 c κs = omega (arith, stored-177, level-fits _ _ (c .before .level-slot .ensures))
 
 add-i : tie.Need-add-i Inv-loop μ-loop
 add-i c = search needs
@@ -63,7 +60,7 @@ loop-less : tie.Need-loop-less Inv-loop μ-loop
 loop-less c = search needs
 
 loop-again : tie.Need-loop-again Inv-loop μ-loop
-loop-again c = (omega arith, (omega arith, parameters-more _ _ _ _ _ _ _ _ (c .before .before .before .before .before .before .before .before .before .before .before .loop-test .taken) (c .before .before .before .before .before .before .before .before .before .before .before .before .loop .inv .1 .1) refl (c .before .before .before .before .before .before .before .before .put-number .ensures .1) (c .before .before .before .before .wide .ensures .0) (c .before .before .put-number2 .ensures .1)))
+loop-again c = (omega arith, (omega arith, parameters-more _ _ _ _ _ _ _ _ _ _ (c .before .before .before .before .before .before .before .before .before .before .before .before .before .before .loop-test .taken) (c .before .before .before .before .before .before .before .before .before .before .before .before .before .before .before .loop .inv .1 .1) refl (c .before .before .before .before .before .before .before .before .before .before .before .value-slot .ensures) (c .before .before .before .before .before .before .before .before .before .put-number .ensures .1) (c .before .before .before .before .before .wide .ensures .0) (c .before .before .before .before .level-slot .ensures) (c .before .before .put-number2 .ensures .1)))
 
 same-length : tie.Need-same-length Inv-loop μ-loop
 same-length c = search needs
@@ -80,14 +77,12 @@ put-parameters-spec =
     loop-holds
     mul-put-number
     element-copy-out-put-number
-    mul-put-number-2
-    add-put-number
+    range-at-requires
+    value-slot-requires
     put-number-requires
     element-copy-out-wide
     wide-requires
-    mul-put-number-3
-    add-put-number-2
-    add-put-number-3
+    level-slot-requires
     put-number-requires-2
     add-i
     loop-less

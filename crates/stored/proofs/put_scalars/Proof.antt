@@ -4,7 +4,7 @@ use mathlib.Core.Path.{_≡_, refl}
 use native.Mathlib.Omega.{arith}
 use lib.ListN.{length}
 use Rattle.stored.proofs.Writing.{Scalars, scalars-none, scalars-more, scalars-all}
-use Rattle.stored.proofs.Slots.{layout-length}
+use Rattle.stored.proofs.Slots.{scalar-ends, stored-177}
 use borrow.Author.Needs.{needs}
 use Rattle.stored.proofs.put_scalars.Statement.{statement}
 use Rattle.stored.proofs.put_scalars.Tie as tie
@@ -12,6 +12,7 @@ use Rattle.stored.proofs.put_scalars.Reads as reads
 use Rattle.stored.proofs.put_scalars.Lts as lts
 use Rattle.stored.proofs.put_number.Reads as put-number-reads
 use Rattle.stored.proofs.scalar.Reads as scalar-reads
+use Rattle.stored.proofs.scalar_slot.Reads as scalar-slot-reads
 
 abbrev Inv-loop : tie.InvT-loop
 Inv-loop r out₀ place₀ out place = (place ≤ 8) × ((length out ≡ length out₀) × Scalars r place out₀ out)
@@ -25,8 +26,11 @@ loop-holds c = (omega arith, (refl, search scalars-none))
 scalar-requires : tie.Need-scalar-requires Inv-loop μ-loop
 scalar-requires c κs = search needs
 
+scalar-slot-requires : tie.Need-scalar-slot-requires Inv-loop μ-loop
+scalar-slot-requires c κs = search needs
+
 put-number-requires : tie.Need-put-number-requires Inv-loop μ-loop
-put-number-requires c κs = (omega (arith, layout-length), omega arith)
+put-number-requires c κs = omega (arith, stored-177, scalar-ends _ _ (c .before .scalar-slot .ensures) (c .before .before .before .loop-test .taken))
 
 add-place : tie.Need-add-place Inv-loop μ-loop
 add-place c = search needs
@@ -51,6 +55,7 @@ put-scalars-spec =
     μ-loop
     loop-holds
     scalar-requires
+    scalar-slot-requires
     put-number-requires
     add-place
     loop-less

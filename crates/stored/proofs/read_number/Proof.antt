@@ -1,6 +1,5 @@
--- `stored::read_number` meets its contract: the slot lies in the bytes, and the number in it is tested against its range. Assumes nothing.
-use native.Mathlib.Omega.{arith}
-use Rattle.stored.proofs.Taking.{slot-inside, slot-fits, slot-four, read-outside, read-inside}
+-- `stored::read_number` meets its contract: the number in the slot is tested against its range. Assumes nothing.
+use Rattle.stored.proofs.Taking.{slot-four, read-outside, read-inside}
 use borrow.Author.Needs.{needs}
 use Rattle.stored.proofs.read_number.Statement.{statement}
 use Rattle.stored.proofs.read_number.Tie as tie
@@ -8,13 +7,9 @@ use Rattle.stored.proofs.read_number.Reads as reads
 use Rattle.stored.proofs.read_number.Lts as lts
 use Rattle.base.proofs.is_between.Reads as is-between-reads
 use Rattle.stored.proofs.number_in.Reads as number-in-reads
-use Rattle.stored.proofs.slot_at.Reads as slot-at-reads
-
-slot-at-requires : tie.Need-slot-at-requires
-slot-at-requires c κs = search needs
 
 add-end : tie.Need-add-end
-add-end c = search (slot-fits, needs)
+add-end c = search needs
 
 sub-number-in : tie.Need-sub-number-in
 sub-number-in c = search needs
@@ -23,7 +18,7 @@ part-number-in-start : tie.Need-part-number-in-start
 part-number-in-start c = search needs
 
 part-number-in-end : tie.Need-part-number-in-end
-part-number-in-end c = search (slot-inside, needs)
+part-number-in-end c = search needs
 
 number-in-requires : tie.Need-number-in-requires
 number-in-requires c κs = search slot-four
@@ -41,7 +36,6 @@ pub read-number-spec : {M : Type 1} → statement M
 read-number-spec =
     tie.close
     (tie.spec
-    slot-at-requires
     add-end
     sub-number-in
     part-number-in-start

@@ -1,125 +1,189 @@
--- `stored::read_parameters` meets its contract. The invariant: the record is what the first i parameters' numbers make of it. Assumes nothing.
-use Prim.Native.Nat.{_-_, _≤_}
+-- `stored::read_parameters` meets its contract. The invariants: the record is what the numbers of the parameters so far make of it. Assumes nothing.
+use Prim.Native.Nat.{_+_, _-_, _*_, _≤_, _<_}
 use mathlib.Core.Path.{_≡_}
 use native.Mathlib.Omega.{arith}
-use Rattle.state.specs.Parameter.{parameterCount}
-use Rattle.stored.specs.Layout.{parameterItems, parametersAt}
-use Rattle.stored.specs.Form.{done, takenFrom}
-use Rattle.stored.proofs.Taking.{begun, value-outside, level-outside, level-byte, both-inside, all-taken}
-use Rattle.stored.proofs.Slots.{layout-length}
+use Rattle.state.specs.Parameter.{recipes, parameterCount}
+use Rattle.stored.specs.Form.{done}
+use Rattle.stored.proofs.Taking.{taken, Further, begun, one-outside, both-inside, all-taken, recipe-range, recipe-begun, next-kind, recipe-ended, recipes-ended}
 use borrow.Author.Needs.{needs}
 use Rattle.stored.proofs.read_parameters.Statement.{statement}
 use Rattle.stored.proofs.read_parameters.Tie as tie
 use Rattle.stored.proofs.read_parameters.Reads as reads
 use Rattle.stored.proofs.read_parameters.Lts as lts
-use Rattle.stored.proofs.read_number.Reads as read-number-reads
+use Rattle.state.proofs.range_at.Reads as range-at-reads
+use Rattle.stored.proofs.read_parameter.Reads as read-parameter-reads
 use Rattle.stored.proofs.refused.Reads as refused-reads
 
+abbrev Inv-loop2 : tie.InvT-loop2
+Inv-loop2 s filled₀ recipe kind₀ filled kind = (recipe < recipes) × ((kind ≤ 3) × Further s filled₀ (3 * recipe) filled (3 * recipe + kind))
+
+abbrev μ-loop2 : tie.MeasureT-loop2
+μ-loop2 s filled₀ recipe kind₀ filled kind = 3 - kind
+
 abbrev Inv-loop : tie.InvT-loop
-Inv-loop s filled₀ i₀ filled i = (i ≤ parameterCount) × (takenFrom parametersAt (parameterItems i) s filled₀ ≡ (done, filled))
+Inv-loop s filled₀ recipe₀ filled recipe = (recipe ≤ recipes) × (taken s filled₀ (3 * recipe) ≡ (done, filled))
 
 abbrev μ-loop : tie.MeasureT-loop
-μ-loop s filled₀ i₀ filled i = parameterCount - i
+μ-loop s filled₀ recipe₀ filled recipe = recipes - recipe
 
-loop-holds : tie.Need-loop-holds Inv-loop μ-loop
+abbrev Inv-loop3 : tie.InvT-loop3
+Inv-loop3 s filled₀ recipe i₀ filled i = (3 * recipes ≤ i) × ((i ≤ parameterCount) × Further s filled₀ (3 * recipes) filled i)
+
+abbrev μ-loop3 : tie.MeasureT-loop3
+μ-loop3 s filled₀ recipe i₀ filled i = parameterCount - i
+
+loop-holds : tie.Need-loop-holds Inv-loop2 μ-loop2 Inv-loop μ-loop Inv-loop3 μ-loop3
 loop-holds c = (omega arith, begun _ _)
 
-mul-read-number : tie.Need-mul-read-number Inv-loop μ-loop
-mul-read-number c = search needs
+loop2-holds : tie.Need-loop2-holds Inv-loop2 μ-loop2 Inv-loop μ-loop Inv-loop3 μ-loop3
+loop2-holds c = (c .loop-test .taken, (omega arith, λ r e. recipe-begun (c .before .before .before .args .s .now) r _ (c .before .loop .recipe) e))
 
-add-read-number : tie.Need-add-read-number Inv-loop μ-loop
-add-read-number c = search needs
+mul-i : tie.Need-mul-i Inv-loop2 μ-loop2 Inv-loop μ-loop Inv-loop3 μ-loop3
+mul-i c = search needs
 
-read-number-requires : tie.Need-read-number-requires Inv-loop μ-loop
-read-number-requires c κs = (omega (arith, layout-length), search needs)
-
-enum-known-value : tie.Need-enum-known-value Inv-loop μ-loop
-enum-known-value c = search needs
-
-enum-told : tie.Need-enum-told Inv-loop μ-loop
-enum-told c = search needs
-
-refused-requires : tie.Need-refused-requires Inv-loop μ-loop
-refused-requires c κs = search needs
-
-returns : tie.Need-returns Inv-loop μ-loop
-returns c = search value-outside
-
-mul-read-number-2 : tie.Need-mul-read-number-2 Inv-loop μ-loop
-mul-read-number-2 c = search needs
-
-add-read-number-2 : tie.Need-add-read-number-2 Inv-loop μ-loop
-add-read-number-2 c = search needs
-
-add-read-number-3 : tie.Need-add-read-number-3 Inv-loop μ-loop
-add-read-number-3 c = search needs
-
-read-number-requires-2 : tie.Need-read-number-requires-2 Inv-loop μ-loop
-read-number-requires-2 c κs = (omega (arith, layout-length), search needs)
-
-enum-known-level : tie.Need-enum-known-level Inv-loop μ-loop
-enum-known-level c = search needs
-
-enum-told-2 : tie.Need-enum-told-2 Inv-loop μ-loop
-enum-told-2 c = search needs
-
-refused-requires-2 : tie.Need-refused-requires-2 Inv-loop μ-loop
-refused-requires-2 c κs = search needs
-
-returns-2 : tie.Need-returns-2 Inv-loop μ-loop
-returns-2 c = search level-outside
-
-mul-filled : tie.Need-mul-filled Inv-loop μ-loop
-mul-filled c = search needs
-
-element-write-filled : tie.Need-element-write-filled Inv-loop μ-loop
-element-write-filled c = search needs
-
-cast-filled : tie.Need-cast-filled Inv-loop μ-loop
-cast-filled c = search (level-byte, needs)
-
-element-write-filled-2 : tie.Need-element-write-filled-2 Inv-loop μ-loop
-element-write-filled-2 c = search needs
-
-add-i : tie.Need-add-i Inv-loop μ-loop
+add-i : tie.Need-add-i Inv-loop2 μ-loop2 Inv-loop μ-loop Inv-loop3 μ-loop3
 add-i c = search needs
 
-loop-less : tie.Need-loop-less Inv-loop μ-loop
+range-at-requires : tie.Need-range-at-requires Inv-loop2 μ-loop2 Inv-loop μ-loop Inv-loop3 μ-loop3
+range-at-requires c κs = search needs
+
+read-parameter-requires :
+    tie.Need-read-parameter-requires Inv-loop2 μ-loop2 Inv-loop μ-loop Inv-loop3 μ-loop3
+read-parameter-requires c κs = (omega arith, c .before .before .before .before .before .before .pre, recipe-range _ _ _ (c .before .before .loop2 .inv .0) (c .before .loop2-test .taken) (c .range-at .ensures))
+
+enum-known-value : tie.Need-enum-known-value Inv-loop2 μ-loop2 Inv-loop μ-loop Inv-loop3 μ-loop3
+enum-known-value c = search needs
+
+enum-told : tie.Need-enum-told Inv-loop2 μ-loop2 Inv-loop μ-loop Inv-loop3 μ-loop3
+enum-told c = search needs
+
+refused-requires : tie.Need-refused-requires Inv-loop2 μ-loop2 Inv-loop μ-loop Inv-loop3 μ-loop3
+refused-requires c κs = search needs
+
+returns : tie.Need-returns Inv-loop2 μ-loop2 Inv-loop μ-loop Inv-loop3 μ-loop3
+returns c = one-outside _ _ _ _ (c .before .before .before .before .before .before .loop2 .inv .1 .1 _ (c .before .before .before .before .before .before .before .before .loop .inv .1)) _ (c .before .before .before .read-parameter .ensures) (omega arith) (c .before .enum-told .given .1) _ _ (c .refused .ensures .0) (c .refused .ensures .1)
+
+mul-filled : tie.Need-mul-filled Inv-loop2 μ-loop2 Inv-loop μ-loop Inv-loop3 μ-loop3
+mul-filled c = search needs
+
+element-write-filled :
+    tie.Need-element-write-filled Inv-loop2 μ-loop2 Inv-loop μ-loop Inv-loop3 μ-loop3
+element-write-filled c = search needs
+
+element-write-filled-2 :
+    tie.Need-element-write-filled-2 Inv-loop2 μ-loop2 Inv-loop μ-loop Inv-loop3 μ-loop3
+element-write-filled-2 c = search needs
+
+add-kind : tie.Need-add-kind Inv-loop2 μ-loop2 Inv-loop μ-loop Inv-loop3 μ-loop3
+add-kind c = search needs
+
+loop2-less : tie.Need-loop2-less Inv-loop2 μ-loop2 Inv-loop μ-loop Inv-loop3 μ-loop3
+loop2-less c = search needs
+
+loop2-again : tie.Need-loop2-again Inv-loop2 μ-loop2 Inv-loop μ-loop Inv-loop3 μ-loop3
+loop2-again c = (c .before .before .before .before .before .before .loop2 .inv .0, (omega arith, λ r e. next-kind _ r _ _ _ (c .before .before .before .before .before .before .loop2 .inv .1 .1 r e) _ (c .before .before .before .read-parameter .ensures) _ _ (c .before .value .given .1)))
+
+add-recipe : tie.Need-add-recipe Inv-loop2 μ-loop2 Inv-loop μ-loop Inv-loop3 μ-loop3
+add-recipe c = search needs
+
+loop-less : tie.Need-loop-less Inv-loop2 μ-loop2 Inv-loop μ-loop Inv-loop3 μ-loop3
 loop-less c = search needs
 
-loop-again : tie.Need-loop-again Inv-loop μ-loop
-loop-again c = (omega arith, search both-inside)
+loop-again : tie.Need-loop-again Inv-loop2 μ-loop2 Inv-loop μ-loop Inv-loop3 μ-loop3
+loop-again c = (omega arith, recipe-ended _ _ _ _ _ (c .before .loop2 .inv .1 .0) (c .loop2-test .left) (c .before .loop2 .inv .1 .1 _ (c .before .before .before .loop .inv .1)))
 
-returns-3 : tie.Need-returns-3 Inv-loop μ-loop
-returns-3 c = search all-taken
+mul-i-2 : tie.Need-mul-i-2 Inv-loop2 μ-loop2 Inv-loop μ-loop Inv-loop3 μ-loop3
+mul-i-2 c = search needs
+
+loop3-holds : tie.Need-loop3-holds Inv-loop2 μ-loop2 Inv-loop μ-loop Inv-loop3 μ-loop3
+loop3-holds c = (omega arith, (omega arith, λ r e. e))
+
+range-at-requires-2 :
+    tie.Need-range-at-requires-2 Inv-loop2 μ-loop2 Inv-loop μ-loop Inv-loop3 μ-loop3
+range-at-requires-2 c κs = search needs
+
+read-parameter-requires-2 :
+    tie.Need-read-parameter-requires-2 Inv-loop2 μ-loop2 Inv-loop μ-loop Inv-loop3 μ-loop3
+read-parameter-requires-2 c κs = (c .before .loop3-test .taken, c .before .before .before .before .before .before .pre, c .range-at2 .ensures)
+
+enum-known-value-2 :
+    tie.Need-enum-known-value-2 Inv-loop2 μ-loop2 Inv-loop μ-loop Inv-loop3 μ-loop3
+enum-known-value-2 c = search needs
+
+enum-told-2 : tie.Need-enum-told-2 Inv-loop2 μ-loop2 Inv-loop μ-loop Inv-loop3 μ-loop3
+enum-told-2 c = search needs
+
+refused-requires-2 :
+    tie.Need-refused-requires-2 Inv-loop2 μ-loop2 Inv-loop μ-loop Inv-loop3 μ-loop3
+refused-requires-2 c κs = search needs
+
+returns-2 : tie.Need-returns-2 Inv-loop2 μ-loop2 Inv-loop μ-loop Inv-loop3 μ-loop3
+returns-2 c = one-outside _ _ _ _ (c .before .before .before .before .before .before .loop3 .inv .1 .1 _ (recipes-ended _ _ _ _ (c .before .before .before .before .before .before .before .before .loop .inv .0) (c .before .before .before .before .before .before .before .loop-test .left) (c .before .before .before .before .before .before .before .before .loop .inv .1))) _ (c .before .before .before .read-parameter2 .ensures) (c .before .before .before .before .before .loop3-test .taken) (c .before .enum-told2 .given .1) _ _ (c .refused2 .ensures .0) (c .refused2 .ensures .1)
+
+mul-filled-2 : tie.Need-mul-filled-2 Inv-loop2 μ-loop2 Inv-loop μ-loop Inv-loop3 μ-loop3
+mul-filled-2 c = search needs
+
+element-write-filled-3 :
+    tie.Need-element-write-filled-3 Inv-loop2 μ-loop2 Inv-loop μ-loop Inv-loop3 μ-loop3
+element-write-filled-3 c = search needs
+
+element-write-filled-4 :
+    tie.Need-element-write-filled-4 Inv-loop2 μ-loop2 Inv-loop μ-loop Inv-loop3 μ-loop3
+element-write-filled-4 c = search needs
+
+add-i-2 : tie.Need-add-i-2 Inv-loop2 μ-loop2 Inv-loop μ-loop Inv-loop3 μ-loop3
+add-i-2 c = search needs
+
+loop3-less : tie.Need-loop3-less Inv-loop2 μ-loop2 Inv-loop μ-loop Inv-loop3 μ-loop3
+loop3-less c = search needs
+
+loop3-again : tie.Need-loop3-again Inv-loop2 μ-loop2 Inv-loop μ-loop Inv-loop3 μ-loop3
+loop3-again c = (omega arith, (omega arith, λ r e. both-inside _ r _ _ (c .before .before .before .before .before .before .loop3 .inv .1 .1 r e) _ (c .before .before .before .read-parameter2 .ensures) _ _ (c .before .value2 .given .1)))
+
+returns-3 : tie.Need-returns-3 Inv-loop2 μ-loop2 Inv-loop μ-loop Inv-loop3 μ-loop3
+returns-3 c = all-taken _ _ _ _ (c .before .loop3 .inv .1 .1 _ (recipes-ended _ _ _ _ (c .before .before .before .loop .inv .0) (c .before .before .loop-test .left) (c .before .before .before .loop .inv .1))) (c .before .loop3 .inv .1 .0) (c .loop3-test .left)
 
 pub read-parameters-spec : {M : Type 1} → statement M
 read-parameters-spec =
     tie.close
     (tie.spec
+    Inv-loop2
+    μ-loop2
     Inv-loop
     μ-loop
+    Inv-loop3
+    μ-loop3
     loop-holds
-    mul-read-number
-    add-read-number
-    read-number-requires
+    loop2-holds
+    mul-i
+    add-i
+    range-at-requires
+    read-parameter-requires
     enum-known-value
     enum-told
     refused-requires
     returns
-    mul-read-number-2
-    add-read-number-2
-    add-read-number-3
-    read-number-requires-2
-    enum-known-level
+    mul-filled
+    element-write-filled
+    element-write-filled-2
+    add-kind
+    loop2-less
+    loop2-again
+    add-recipe
+    loop-less
+    loop-again
+    mul-i-2
+    loop3-holds
+    range-at-requires-2
+    read-parameter-requires-2
+    enum-known-value-2
     enum-told-2
     refused-requires-2
     returns-2
-    mul-filled
-    element-write-filled
-    cast-filled
-    element-write-filled-2
-    add-i
-    loop-less
-    loop-again
+    mul-filled-2
+    element-write-filled-3
+    element-write-filled-4
+    add-i-2
+    loop3-less
+    loop3-again
     returns-3)

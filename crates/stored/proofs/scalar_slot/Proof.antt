@@ -35,28 +35,28 @@ slot-of-requires-8 : tie.Need-slot-of-requires-8
 slot-of-requires-8 c κs = search needs
 
 returns : tie.Need-returns
-returns c = search (scalar-here 0, needs)
+returns c = search (scalar-here 0)
 
 returns-2 : tie.Need-returns-2
-returns-2 c = search (scalar-here 1, needs)
+returns-2 c = search (scalar-here 1)
 
 returns-3 : tie.Need-returns-3
-returns-3 c = search (scalar-here 2, needs)
+returns-3 c = search (scalar-here 2)
 
 returns-4 : tie.Need-returns-4
-returns-4 c = search (scalar-here 3, needs)
+returns-4 c = search (scalar-here 3)
 
 returns-5 : tie.Need-returns-5
-returns-5 c = search (scalar-here 4, needs)
+returns-5 c = search (scalar-here 4)
 
 returns-6 : tie.Need-returns-6
-returns-6 c = search (scalar-here 5, needs)
+returns-6 c = search (scalar-here 5)
 
 returns-7 : tie.Need-returns-7
-returns-7 c = search (scalar-here 6, needs)
+returns-7 c = search (scalar-here 6)
 
 returns-8 : tie.Need-returns-8
-returns-8 c = scalar-last (c .before .match .rest) (search needs) (search needs)
+returns-8 c = scalar-last (c .before .match .rest) (c .before .before .pre) (search needs)
 
 pub scalar-slot-spec : {M : Type 1} → statement M
 scalar-slot-spec =

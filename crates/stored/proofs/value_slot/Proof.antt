@@ -1,15 +1,11 @@
 -- `stored::value_slot` meets its contract: the range is that of the parameter. Assumes nothing.
-use Rattle.stored.proofs.Slots.{value-range}
+use Rattle.stored.proofs.Slots.{value-is}
 use borrow.Author.Needs.{needs}
 use Rattle.stored.proofs.value_slot.Statement.{statement}
 use Rattle.stored.proofs.value_slot.Tie as tie
 use Rattle.stored.proofs.value_slot.Reads as reads
 use Rattle.stored.proofs.value_slot.Lts as lts
-use Rattle.state.proofs.range_at.Reads as range-at-reads
 use Rattle.stored.proofs.slot_of.Reads as slot-of-reads
-
-range-at-requires : tie.Need-range-at-requires
-range-at-requires c κs = search needs
 
 mul-slot-of : tie.Need-mul-slot-of
 mul-slot-of c = search needs
@@ -21,8 +17,7 @@ slot-of-requires : tie.Need-slot-of-requires
 slot-of-requires c κs = search needs
 
 returns : tie.Need-returns
-returns c = search value-range
+returns c = search value-is
 
 pub value-slot-spec : {M : Type 1} → statement M
-value-slot-spec =
-    tie.close (tie.spec range-at-requires mul-slot-of add-slot-of slot-of-requires returns)
+value-slot-spec = tie.close (tie.spec mul-slot-of add-slot-of slot-of-requires returns)

@@ -1,0 +1,63 @@
+-- `stored::read_parameter` meets its contract: the value's reader, then the level's. Assumes nothing.
+use Rattle.stored.proofs.Taking.{value-room, level-room, value-out, level-out, level-byte, both-in}
+use borrow.Author.Needs.{needs}
+use Rattle.stored.proofs.read_parameter.Statement.{statement}
+use Rattle.stored.proofs.read_parameter.Tie as tie
+use Rattle.stored.proofs.read_parameter.Reads as reads
+use Rattle.stored.proofs.read_parameter.Lts as lts
+use Rattle.stored.proofs.level_slot.Reads as level-slot-reads
+use Rattle.stored.proofs.read_number.Reads as read-number-reads
+use Rattle.stored.proofs.value_slot.Reads as value-slot-reads
+
+value-slot-requires : tie.Need-value-slot-requires
+value-slot-requires c κs = search needs
+
+read-number-requires : tie.Need-read-number-requires
+read-number-requires c κs = value-room _ (c .before .before .args .s .now) (c .before .before .pre .0) (c .before .before .pre .1) _ (c .value-slot .ensures)
+
+enum-known-value : tie.Need-enum-known-value
+enum-known-value c = search needs
+
+enum-told : tie.Need-enum-told
+enum-told c = search needs
+
+returns : tie.Need-returns
+returns c = search value-out
+
+level-slot-requires : tie.Need-level-slot-requires
+level-slot-requires c κs = search needs
+
+read-number-requires-2 : tie.Need-read-number-requires-2
+read-number-requires-2 c κs = level-room _ (c .before .before .before .before .before .before .before .args .s .now) (c .before .before .before .before .before .before .before .pre .0) (c .before .before .before .before .before .before .before .pre .1) _ (c .level-slot .ensures)
+
+enum-known-level : tie.Need-enum-known-level
+enum-known-level c = search needs
+
+enum-told-2 : tie.Need-enum-told-2
+enum-told-2 c = search needs
+
+returns-2 : tie.Need-returns-2
+returns-2 c = search level-out
+
+cast-t9 : tie.Need-cast-t9
+cast-t9 c = search (level-byte, needs)
+
+returns-3 : tie.Need-returns-3
+returns-3 c = search both-in
+
+pub read-parameter-spec : {M : Type 1} → statement M
+read-parameter-spec =
+    tie.close
+    (tie.spec
+    value-slot-requires
+    read-number-requires
+    enum-known-value
+    enum-told
+    returns
+    level-slot-requires
+    read-number-requires-2
+    enum-known-level
+    enum-told-2
+    returns-2
+    cast-t9
+    returns-3)
