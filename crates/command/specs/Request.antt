@@ -70,7 +70,7 @@ whole f xs q = pick (formed f xs) q Malformed
 unfoldable pub volumeOf : List ℕ → Request
 volumeOf xs =
     pick (formed (words (text "R" ∷ [])) xs) Raw
-    (pick (behindSpace (oneOf ((0x47 ∷ []) ∷ (0x4e ∷ []) ∷ (0x50 ∷ []) ∷ (0x4d ∷ []) ∷ [])) xs) NotServed Malformed)
+    (pick (behindSpace (oneOf (text "G" ∷ text "N" ∷ text "P" ∷ text "M" ∷ [])) xs) NotServed Malformed)
 
 unfoldable pub flagOf : List ℕ → Request
 flagOf xs =

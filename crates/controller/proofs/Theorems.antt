@@ -186,9 +186,9 @@ statusFrom p k f c b w =
 
 abbrev pub codesFrom : ℕ → ℕ → ℕ → ℕ → ℕ → ℕ → List ℕ
 codesFrom p k f c b w =
-    pick (eqb f on) (0x46 ∷ 0x4c ∷ space ∷ []) [] ++ (pick (eqb b on) (0x42 ∷ 0x44 ∷ space ∷ []) [] ++ (pick (eqb c on) (0x50 ∷ 0x43 ∷ space ∷ []) []
-    ++ (pick (eqb w on) (0x50 ∷ 0x46 ∷ space ∷ []) [] ++ (pick (eqb k on) (0x50 ∷ 0x57 ∷ space ∷ []) [] ++ (pick (member p (done ∷ [])) (0x54 ∷ 0x44 ∷ space ∷ []) []
-    ++ (pick (member p (running ∷ stopped ∷ [])) (0x54 ∷ 0x50 ∷ space ∷ []) [] ++ (pick (member p (running ∷ [])) (0x52 ∷ 0x4c ∷ space ∷ []) [] ++ [])))))))
+    pick (eqb f on) (text "FL ") [] ++ (pick (eqb b on) (text "BD ") [] ++ (pick (eqb c on) (text "PC ") []
+    ++ (pick (eqb w on) (text "PF ") [] ++ (pick (eqb k on) (text "PW ") [] ++ (pick (member p (done ∷ [])) (text "TD ") []
+    ++ (pick (member p (running ∷ stopped ∷ [])) (text "TP ") [] ++ (pick (member p (running ∷ [])) (text "RL ") [] ++ [])))))))
 
 -- the requests that name a parameter
 abbrev of-parameter : ℕ → Bool

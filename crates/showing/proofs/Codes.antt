@@ -6,6 +6,7 @@ use mathlib.Core.List.{List, [], _∷_}
 use native.Mathlib.Omega.{arith}
 use lib.ListN.{length, take, drop}
 use borrow.Author.Tests.{eq-eqb, ne-eqb, not-true, not-false}
+use Rattle.base.specs.Text.{text}
 use Rattle.command.specs.Word.{equal}
 use Rattle.knowledge.specs.declared.Knowledge.{Knowledge}
 use Rattle.knowledge.specs.Sets.{maskFrom}
@@ -29,25 +30,25 @@ pub ruleset code-read = (code-stands, code-lacks)
 
 -- ---- `show_flag_codes` and `show_phase_codes`
 module _ (s : List ℕ) (x a b c d e : Walk) where
-  pub flag-codes : a ≡ codeShown s (0x46 ∷ 0x4c ∷ 0x20 ∷ []) 4 0x2 0x1 x → b ≡ codeShown s (0x42 ∷ 0x44 ∷ 0x20 ∷ []) 6 0x2 0x1 a
-      → c ≡ codeShown s (0x50 ∷ 0x43 ∷ 0x20 ∷ []) 5 0x2 0x1 b → d ≡ codeShown s (0x50 ∷ 0x46 ∷ 0x20 ∷ []) 7 0x2 0x1 c
-      → e ≡ codeShown s (0x50 ∷ 0x57 ∷ 0x20 ∷ []) 3 0x2 0x1 d → e ≡ codesShown s (take 5 codes) x
+  pub flag-codes : a ≡ codeShown s (text "FL ") 4 0x2 0x1 x → b ≡ codeShown s (text "BD ") 6 0x2 0x1 a
+      → c ≡ codeShown s (text "PC ") 5 0x2 0x1 b → d ≡ codeShown s (text "PF ") 7 0x2 0x1 c
+      → e ≡ codeShown s (text "PW ") 3 0x2 0x1 d → e ≡ codesShown s (take 5 codes) x
   unfolding maskFrom
   flag-codes a′ b′ c′ d′ e′ =
-      e′ ∙ ap (codeShown s (0x50 ∷ 0x57 ∷ 0x20 ∷ []) 3 0x2 0x1)
-      (d′ ∙ ap (codeShown s (0x50 ∷ 0x46 ∷ 0x20 ∷ []) 7 0x2 0x1)
-      (c′ ∙ ap (codeShown s (0x50 ∷ 0x43 ∷ 0x20 ∷ []) 5 0x2 0x1) (b′ ∙ ap (codeShown s (0x42 ∷ 0x44 ∷ 0x20 ∷ []) 6 0x2 0x1) a′)))
+      e′ ∙ ap (codeShown s (text "PW ") 3 0x2 0x1)
+      (d′ ∙ ap (codeShown s (text "PF ") 7 0x2 0x1)
+      (c′ ∙ ap (codeShown s (text "PC ") 5 0x2 0x1) (b′ ∙ ap (codeShown s (text "BD ") 6 0x2 0x1) a′)))
 
-  pub phase-codes : a ≡ codeShown s (0x54 ∷ 0x44 ∷ 0x20 ∷ []) 2 0x10 0xf x → b ≡ codeShown s (0x54 ∷ 0x50 ∷ 0x20 ∷ []) 2 0xc 0x13 a
-      → c ≡ codeShown s (0x52 ∷ 0x4c ∷ 0x20 ∷ []) 2 0x4 0x1b b → c ≡ codesShown s (drop 5 codes) x
+  pub phase-codes : a ≡ codeShown s (text "TD ") 2 0x10 0xf x → b ≡ codeShown s (text "TP ") 2 0xc 0x13 a
+      → c ≡ codeShown s (text "RL ") 2 0x4 0x1b b → c ≡ codesShown s (drop 5 codes) x
   unfolding maskFrom
   phase-codes a′ b′ c′ =
-      c′ ∙ ap (codeShown s (0x52 ∷ 0x4c ∷ 0x20 ∷ []) 2 0x4 0x1b) (b′ ∙ ap (codeShown s (0x54 ∷ 0x50 ∷ 0x20 ∷ []) 2 0xc 0x13) a′)
+      c′ ∙ ap (codeShown s (text "RL ") 2 0x4 0x1b) (b′ ∙ ap (codeShown s (text "TP ") 2 0xc 0x13) a′)
 
 -- ---- `show_codes`
-module _ (s : List ℕ) (k : Knowledge) (b : Bool) (e : b ≡ equal (take 3 s) (0x52 ∷ 0x53 ∷ 0x20 ∷ [])) where
+module _ (s : List ℕ) (k : Knowledge) (b : Bool) (e : b ≡ equal (take 3 s) (text "RS ")) where
   pub list-room : not b ≡ false → 3 ≤ length s
-  list-room h = word-within s (0x52 ∷ 0x53 ∷ 0x20 ∷ []) 0 (omega arith) (sym e ∙ not-false b h)
+  list-room h = word-within s (text "RS ") 0 (omega arith) (sym e ∙ not-false b h)
 
   pub list-wrong : (r : Knowledge) → not b ≡ true → r ≡ dead k → r ≡ listShown s k
   unfolding listShown
