@@ -1,20 +1,18 @@
 -- What is known of a record: for each field the code of a set, at the field's position. Dead: no record is possible.
 use Prim.Native.Nat.{ℕ}
 use mathlib.Core.Bool.{Bool, true, false, _&&_}
-use mathlib.Core.Path.{_≡_}
-use mathlib.Core.List.{List, map}
+use mathlib.Core.List.{map}
 use lib.Dec.{eqb}
 use lib.ListN.{getD, set}
 use lib.Bits.{bitAnd}
 use Rattle.base.specs.Test.{pick}
-use Rattle.state.specs.declared.Record.{Record}
 use Rattle.state.specs.declared.Range.{Range}
 use Rattle.state.specs.Parameter.{parameterCount}
-use Rattle.state.specs.Field.{Field, address, access, phase, keypad, flow, changed, reset, powerfail, recipe, preset, raw, number, value, level, get, position, fieldRange, fieldsFor}
+use Rattle.state.specs.Field.{Field, address, access, phase, keypad, flow, changed, reset, powerfail, recipe, preset, raw, number, value, level, position, fieldRange, fieldsFor}
 use Rattle.state.specs.Valid.{within}
 use Rattle.state.specs.Event.{nextNumber}
 use Rattle.knowledge.specs.declared.Knowledge.{Knowledge}
-use Rattle.knowledge.specs.Sets.{any, alone, maskIn, only, anyNumber, Kind, several, single, kindOf}
+use Rattle.knowledge.specs.Sets.{any, alone, maskIn, only, anyNumber}
 
 -- the code at a position, 0 beyond the last
 unfoldable pub codeAt : ℕ → Knowledge → ℕ

@@ -1,7 +1,7 @@
 -- What one field may hold, as one number: the code of a set. A field of few numbers has a mask; of a field of many numbers either
 -- nothing is known or the number itself.
 use Prim.Native.Nat.{ℕ, zero, suc, _+_, _*_, _/_, _%_}
-use mathlib.Core.Bool.{Bool, true, false, _&&_, _||_}
+use mathlib.Core.Bool.{Bool, true, _&&_, _||_}
 use lib.Dec.{eqb}
 use Rattle.state.specs.Parameter.{recipes}
 use Rattle.state.specs.Field.{Field, address, access, phase, keypad, flow, changed, reset, powerfail, recipe, preset, raw, number, value, level, fieldRange, flagNumber}

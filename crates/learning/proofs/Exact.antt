@@ -15,7 +15,6 @@ use Rattle.command.specs.declared.Request.{Request}
 use Rattle.command.specs.declared.Request.the-variants.{Unknown, Malformed, NotServed, Status, Codes, Number, Recipe, Composition, Raw, Value, Level, SetValue, SetLevel, SelectRecipe, SetBatch, Start, Stop, End, ClearReset, ClearChanged}
 use Rattle.command.specs.declared.Digits.{Digits}
 use Rattle.command.specs.declared.Digits.the-variants as digitsRead
-use Rattle.command.specs.Word.{digits}
 use Rattle.command.specs.Commands.{applied}
 use Rattle.command.specs.Answer.{Verdict, NO, accepted}
 use Rattle.command.specs.Request.{refusedUnless, listed, andThen, placeFor, byItself, guards, guarded, verdictFor, shows, changes, replyTo, recordTo}

@@ -1,7 +1,7 @@
 -- What an answered request teaches: the refusals that it passed, the one it met, what the reply shows, and what changes.
-use Prim.Native.Nat.{ℕ, _+_}
-use mathlib.Core.Bool.{not, _&&_}
-use mathlib.Core.List.{List, [], _∷_, _++_}
+use Prim.Native.Nat.{ℕ}
+use mathlib.Core.Bool.{not}
+use mathlib.Core.List.{List, [], _∷_}
 use lib.Dec.{eqb}
 use Rattle.base.specs.Test.{pick}
 use Rattle.state.specs.Field.{phase, changed, reset, recipe, preset, raw, value, level, on, off}

@@ -2,15 +2,13 @@
 -- list of items that names each field once, and then for the list that is stored. Assumes nothing.
 use Prim.Native.Nat.{ℕ, zero, suc, _+_, _-_, _*_, _/_, _%_, _^_, _≤_, _<_}
 use mathlib.Core.Bool.{Bool, true, false, not, _&&_, _||_, false≢true}
-use mathlib.Core.Path.{_≡_, refl, sym, ap, subst, _∙_}
-use mathlib.Core.List.{List, [], _∷_, _++_, map}
-use mathlib.Core.Logic.{⊎-elim}
+use mathlib.Core.Path.{_≡_, refl, sym, ap, _∙_}
+use mathlib.Core.List.{List, [], _∷_, map}
 use native.Mathlib.Nat.{pow-suc}
 use native.Mathlib.Omega.{arith}
 use lib.Dec.{eqb, ltb}
-use lib.ListN.{length, getD}
-use borrow.Author.Tests.{eq-eqb, ne-eqb, eqb-true, eqb-false, ltb-true}
-use Rattle.base.specs.Test.{member}
+use lib.ListN.{length}
+use borrow.Author.Tests.{eq-eqb, eqb-true, eqb-false, ltb-true}
 use Rattle.base.proofs.Tests.{and-yes, and-left, and-right, between-yes, between-high, holds-below, by-test}
 use Rattle.state.specs.declared.Record.{Record}
 use Rattle.state.specs.Parameter.{parameterCount, rangeAt}
@@ -20,8 +18,7 @@ use Rattle.state.proofs.Fields.{Held, same-field, get-put-same, get-put-other}
 use Rattle.state.proofs.Kept.{field-in, put-kept}
 use Rattle.state.proofs.Validity.{valid-tell}
 use Rattle.state.proofs.Whole.{same-fields, from-valid}
-use Rattle.stored.specs.declared.Slot.{Slot}
-use Rattle.stored.specs.Layout.{Item, alone, together, scalarItems, parameterItems, current, items, itemWidth, itemSlot, slotsFrom, bits, itemNumber, numbersOf, putBits, putItem, putAll}
+use Rattle.stored.specs.Layout.{Item, alone, together, current, items, itemWidth, itemSlot, slotsFrom, bits, itemNumber, numbersOf, putBits, putItem, putAll}
 use Rattle.stored.specs.Form.{inSlot, allIn, lowRecord}
 
 -- ---- which fields items name

@@ -1,8 +1,8 @@
 -- Reading gives back what was written, and writing what was read. Assumes nothing.
-use Prim.Native.Nat.{ℕ, zero, suc, _+_, _-_, _*_, _/_, _%_, _^_, _≤_, _<_}
+use Prim.Native.Nat.{ℕ, suc, _+_, _-_, _^_, _≤_, _<_}
 use mathlib.Core.Bool.{Bool, true, false, _&&_}
 use mathlib.Core.Path.{_≡_, refl, sym, ap, _∙_}
-use mathlib.Core.List.{List, [], _∷_, _++_, append-assoc, append-nil}
+use mathlib.Core.List.{List, [], _∷_, _++_, append-assoc}
 use mathlib.Core.Logic.{⊎-elim}
 use native.Mathlib.Omega.{arith}
 use lib.Dec.{eqb, leb, ltb}
@@ -16,12 +16,13 @@ use Rattle.state.specs.declared.Record.{Record}
 use Rattle.state.specs.Parameter.{rangeAt}
 use Rattle.state.specs.Valid.{valid}
 use Rattle.stored.specs.declared.Slot.{Slot}
-use Rattle.stored.specs.Layout.{Item, alone, together, current, items, headerWidth, itemWidth, totalWidth, itemSlot, slotsFrom, numbersOf, putAll}
+use Rattle.stored.specs.Layout.{Item, current, items, headerWidth, itemWidth, totalWidth, itemSlot, slotsFrom, numbersOf, putAll}
 use Rattle.stored.specs.Form.{Outcome, K, done, bigEndian, numberOf, pack, packed, numberAt, numbersIn, inSlot, allIn, storedLength, heading, storedForm, writeOf, headerOf, lowRecord, takenFrom, bodyOf, afterHeader, readOf}
 use Rattle.stored.proofs.ListLaws.{over-take}
 use Rattle.stored.proofs.Bytes.{Bytes, big-length, number-big, big-number}
+use Rattle.stored.proofs.Slots.{slot-width}
 use Rattle.stored.proofs.Taking.{refused-done}
-use Rattle.stored.proofs.Writing.{numbers-length, packed-length}
+use Rattle.stored.proofs.Writing.{numbers-length}
 use Rattle.stored.proofs.Records.{low-valid, numbers-in, record-of-numbers, numbers-valid, numbers-of-record}
 -- the stored form is 177 bytes long
 pub use Rattle.stored.proofs.Slots.{stored-177}
@@ -35,16 +36,12 @@ abbrev allFit : List Slot → Bool
 allFit [] = true
 allFit (s ∷ ss) = ltb (s .high) (256 ^ s .width) && allFit ss
 
-slot-is : (at : ℕ) (x : Item) → (itemSlot at x .width ≡ itemWidth x) × (itemSlot at x .at ≡ at)
-slot-is at (alone w f) = (refl, refl)
-slot-is at (together fs) = (refl, refl)
-
 -- the number in a slot behind some bytes
 number-there : (before rest : List ℕ) (x : Item) (n : ℕ) → inSlot (itemSlot (length before) x) n ≡ true → itemSlot (length before) x .high < 256 ^ itemSlot (length before) x .width
     → numberAt (before ++ (bigEndian (itemWidth x) n ++ rest)) (itemSlot (length before) x) ≡ n
 number-there before rest x n i fit =
     let s : Slot = itemSlot (length before) x in
-    let e = slot-is (length before) x in
+    let e = slot-width (length before) x in
     let high : n ≤ s .high = between-high (s .low) (s .high) n i in
     let f : List ℕ = bigEndian (itemWidth x) n in
     let w : 256 ^ s .width ≡ 256 ^ itemWidth x = ap (λ (k : ℕ). 256 ^ k) (e .0) in
@@ -88,7 +85,7 @@ unfolding slotsFrom numbersIn pack
 bytes-back at [] bs l h = sym (drop-of-length-le bs (let e : length bs ≤ at = omega arith in e))
 bytes-back at (x ∷ xs) bs l h =
     let w : ℕ = itemWidth x in
-    let e = slot-is at x in
+    let e = slot-width at x in
     let d = length-drop at bs in
     let n : numberAt bs (itemSlot at x) ≡ numberOf (take w (drop at bs)) =
     ap (λ (k : ℕ). numberOf (take (itemSlot at x .width) (drop k bs))) (e .1) ∙ ap (λ (k : ℕ). numberOf (take k (drop at bs))) (e .0) in

@@ -1,44 +1,29 @@
 -- The slots of a list of items, place by place: over any list, and then those of the parameters. Assumes nothing.
-use Prim.Native.Nat.{ℕ, zero, suc, _+_, _-_, _*_, _/_, _%_, _≤_, _<_}
+use Prim.Native.Nat.{ℕ, zero, suc, _+_, _-_, _*_, _≤_, _<_}
 use mathlib.Core.Bool.{Bool, true, _&&_}
 use mathlib.Core.Path.{_≡_, refl, sym, ap, _∙_}
 use mathlib.Core.List.{List, [], _∷_, _++_}
-use mathlib.Core.Logic.{⊎-elim}
 use native.Mathlib.Nat.{not-suc-le-zero, le-of-suc-le-suc}
 use native.Mathlib.Omega.{arith}
 use lib.Dec.{leb}
-use lib.ListN.{length, getD, drop, length-append, List·getD-append, List·getD-eq-default}
-use lib.Seq.{getD-append-add, getD-drop}
-use borrow.Author.Tests.{leb-true, ne-eqb}
-use Rattle.base.specs.Test.{pick}
-use Rattle.base.proofs.Tests.{below-or-not, and-left, and-right}
+use lib.ListN.{length, getD}
+use borrow.Author.Tests.{leb-true}
+use Rattle.base.proofs.Tests.{and-left, and-right}
 use Rattle.state.specs.declared.Range.{Range}
-use Rattle.state.specs.Parameter.{parameterCount, rangeAt}
+use Rattle.state.specs.Parameter.{rangeAt}
 use Rattle.state.specs.Field.{value, level}
 use Rattle.stored.specs.declared.Slot.{Slot}
-use Rattle.stored.specs.Layout.{Item, alone, scalarItems, parameterItems, current, items, headerWidth, itemWidth, totalWidth, parametersAt, itemSlot, slotOf, slotsFrom, scalarSlots, noSlot}
+use Rattle.stored.specs.Layout.{Item, alone, together, scalarItems, parameterItems, current, headerWidth, itemWidth, totalWidth, parametersAt, itemSlot, slotOf, slotsFrom, scalarSlots, noSlot}
 use Rattle.stored.specs.Form.{storedLength}
 
 -- ---- any list of items
-pub slots-length : (at : ℕ) (xs : List Item) → length (slotsFrom at xs) ≡ length xs
-unfolding slotsFrom
-slots-length at [] = refl
-slots-length at (x ∷ xs) = ap suc (slots-length (at + itemWidth x) xs)
-
-pub slots-append : (at : ℕ) (xs ys : List Item) → slotsFrom at (xs ++ ys) ≡ slotsFrom at xs ++ slotsFrom (at + totalWidth xs) ys
-unfolding slotsFrom
-slots-append at [] ys = ap (λ (k : ℕ). slotsFrom k ys) (let e : at ≡ at + 0 = omega arith in e)
-slots-append at (x ∷ xs) ys =
-    let e : at + itemWidth x + totalWidth xs ≡ at + (itemWidth x + totalWidth xs) = omega arith in
-    ap (λ (l : List Slot). itemSlot at x ∷ l) (slots-append (at + itemWidth x) xs ys ∙ ap (λ (k : ℕ). slotsFrom (at + itemWidth x) xs ++ slotsFrom k ys) e)
-
 pub width-append : (xs ys : List Item) → totalWidth (xs ++ ys) ≡ totalWidth xs + totalWidth ys
 width-append [] ys = omega arith
 width-append (x ∷ xs) ys = let h = width-append xs ys in omega arith
 
-slot-width : (at : ℕ) (x : Item) → (itemSlot at x .width ≡ itemWidth x) × (itemSlot at x .at ≡ at)
+pub slot-width : (at : ℕ) (x : Item) → (itemSlot at x .width ≡ itemWidth x) × (itemSlot at x .at ≡ at)
 slot-width at (alone w f) = (refl, refl)
-slot-width at (Item.together fs) = (refl, refl)
+slot-width at (together fs) = (refl, refl)
 
 -- a slot ends where the items end, or before
 pub slot-room : (at : ℕ) (xs : List Item) (k : ℕ) → k < length xs → getD (slotsFrom at xs) k noSlot .at + getD (slotsFrom at xs) k noSlot .width ≤ at + totalWidth xs
@@ -62,10 +47,6 @@ slot-narrow at (x ∷ xs) (suc k) n h = slot-narrow (at + itemWidth x) xs k (and
 pub parameters-width : (n : ℕ) → totalWidth (parameterItems n) ≡ 5 * n
 parameters-width zero = refl
 parameters-width (suc n) = let h = parameters-width n in width-append (parameterItems n) _ ∙ omega arith
-
-pub parameters-length : (n : ℕ) → length (parameterItems n) ≡ 2 * n
-parameters-length zero = refl
-parameters-length (suc n) = let h = parameters-length n in length-append (parameterItems n) _ ∙ omega arith
 
 -- the two of one parameter
 abbrev pub pair : ℕ → List Item

@@ -1,10 +1,8 @@
 -- What the readers' answers tell, and what the numbers of some items make of a record, item by item. Assumes nothing.
 use Prim.Native.Nat.{ℕ, zero, suc, _+_, _-_, _*_, _/_, _%_, _≤_, _<_}
 use mathlib.Core.Bool.{Bool, true, false, not, _&&_, false≢true}
-use mathlib.Core.Path.{_≡_, refl, sym, ap, subst, _∙_}
+use mathlib.Core.Path.{_≡_, refl, sym, ap, _∙_}
 use mathlib.Core.List.{List, [], _∷_, _++_}
-use native.Mathlib.Nat.{eq-or-lt-of-le}
-use mathlib.Core.Logic.{⊎-elim}
 use native.Mathlib.Omega.{arith}
 use native.Mathlib.Numerals.{add-one}
 use lib.Dec.{ltb}
@@ -29,7 +27,7 @@ use Rattle.stored.specs.declared.Number.the-variants as number
 use Rattle.stored.specs.declared.Parameter.{Parameter}
 use Rattle.stored.specs.declared.Parameter.the-variants as parameter
 use Rattle.stored.specs.declared.Slot.{Slot}
-use Rattle.stored.specs.Layout.{Item, alone, scalarItems, parameterItems, current, items, headerWidth, itemWidth, totalWidth, parametersAt, itemSlot, slotsFrom, scalarSlots, noSlot, putItem, putBits, putAll}
+use Rattle.stored.specs.Layout.{Item, alone, scalarItems, parameterItems, current, headerWidth, itemWidth, totalWidth, parametersAt, itemSlot, slotsFrom, scalarSlots, noSlot, putItem, putBits, putAll}
 use Rattle.stored.specs.Form.{Outcome, K, done, refusalNumber, headerAs, numberOf, numberAt, numbersIn, inSlot, allIn, storedLength, headerOf, lowRecord, takenFrom, bodyOf, afterHeader, readOf, numberRead, pairRead, parameterRead}
 use Rattle.stored.proofs.ListLaws.{set-over, over-all}
 use Rattle.stored.proofs.Slots.{pair, parameters-width, stored-177}

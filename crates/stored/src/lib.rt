@@ -129,6 +129,7 @@ fn scalar_slot(place: usize) -> Slot
         RECIPE => slot_of(7, 1, 1, RECIPES as u32),
         PRESET => slot_of(8, 3, 0, 999999),
         RAW => slot_of(11, 4, 0, 99999999),
+        // NUMBER
         _ => slot_of(15, 2, 1, 9999),
     }
 }
@@ -231,6 +232,7 @@ fn scalar(r: Record, place: usize) -> u32
         RECIPE => wide(r.recipe),
         PRESET => r.preset,
         RAW => r.raw,
+        // NUMBER
         _ => r.number as u32,
     }
 }

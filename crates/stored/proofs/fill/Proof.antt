@@ -10,8 +10,6 @@ use Rattle.stored.proofs.Bytes.{fill-begun, fill-again, fill-done}
 use borrow.Author.Needs.{needs}
 use Rattle.stored.proofs.fill.Statement.{statement}
 use Rattle.stored.proofs.fill.Tie as tie
-use Rattle.stored.proofs.fill.Reads as reads
-use Rattle.stored.proofs.fill.Lts as lts
 
 abbrev Inv-loop : tie.InvT-loop
 Inv-loop n out₀ rest₀ left₀ out rest left = (left ≤ length out) × ((length out ≡ length out₀) × (bigEndian left rest ++ drop left out ≡ bigEndian (length out₀) n))

@@ -8,9 +8,6 @@ use Rattle.stored.proofs.LowRecord.{lows, low-none, low-more, low-is}
 use borrow.Author.Needs.{needs}
 use Rattle.stored.proofs.low_record.Statement.{statement}
 use Rattle.stored.proofs.low_record.Tie as tie
-use Rattle.stored.proofs.low_record.Reads as reads
-use Rattle.stored.proofs.low_record.Lts as lts
-use Rattle.state.proofs.range_at.Reads as range-at-reads
 
 abbrev Inv-loop : tie.InvT-loop
 Inv-loop values₀ i₀ values i = (i ≤ parameterCount) × (values ≡ over (lows i) values₀)

@@ -6,9 +6,6 @@ use Rattle.stored.proofs.Bytes.{Begun, begun-none, begun-high, begun-mo
 use borrow.Author.Needs.{needs}
 use Rattle.stored.proofs.number_in.Statement.{statement}
 use Rattle.stored.proofs.number_in.Tie as tie
-use Rattle.stored.proofs.number_in.Reads as reads
-use Rattle.stored.proofs.number_in.Lts as lts
-use Rattle.base.proofs.wide.Reads as wide-reads
 
 abbrev Inv-loop : tie.InvT-loop
 Inv-loop s n₀ i₀ n i = Begun s n i

@@ -3,9 +3,6 @@ use Rattle.stored.proofs.Writing.{header-put, header-same}
 use borrow.Author.Needs.{needs}
 use Rattle.stored.proofs.put_header.Statement.{statement}
 use Rattle.stored.proofs.put_header.Tie as tie
-use Rattle.stored.proofs.put_header.Reads as reads
-use Rattle.stored.proofs.put_header.Lts as lts
-use Rattle.stored.proofs.fill.Reads as fill-reads
 
 slice-write-out : tie.Need-slice-write-out
 slice-write-out c = search needs

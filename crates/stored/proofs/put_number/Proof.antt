@@ -3,9 +3,6 @@ use Rattle.stored.proofs.Writing.{number-put}
 use borrow.Author.Needs.{needs}
 use Rattle.stored.proofs.put_number.Statement.{statement}
 use Rattle.stored.proofs.put_number.Tie as tie
-use Rattle.stored.proofs.put_number.Reads as reads
-use Rattle.stored.proofs.put_number.Lts as lts
-use Rattle.stored.proofs.fill.Reads as fill-reads
 
 add-end : tie.Need-add-end
 add-end c = search needs

@@ -9,13 +9,6 @@ use Rattle.stored.proofs.Slots.{stored-177}
 use borrow.Author.Needs.{needs}
 use Rattle.stored.proofs.put_parameters.Statement.{statement}
 use Rattle.stored.proofs.put_parameters.Tie as tie
-use Rattle.stored.proofs.put_parameters.Reads as reads
-use Rattle.stored.proofs.put_parameters.Lts as lts
-use Rattle.base.proofs.wide.Reads as wide-reads
-use Rattle.state.proofs.range_at.Reads as range-at-reads
-use Rattle.stored.proofs.level_slot.Reads as level-slot-reads
-use Rattle.stored.proofs.put_number.Reads as put-number-reads
-use Rattle.stored.proofs.value_slot.Reads as value-slot-reads
 
 abbrev Inv-loop : tie.InvT-loop
 Inv-loop out₀ r i₀ out i = (i ≤ parameterCount) × ((length out ≡ length out₀) × Parameters r i out₀ out)

@@ -8,11 +8,6 @@ use Rattle.stored.proofs.Slots.{scalar-ends, stored-177}
 use borrow.Author.Needs.{needs}
 use Rattle.stored.proofs.put_scalars.Statement.{statement}
 use Rattle.stored.proofs.put_scalars.Tie as tie
-use Rattle.stored.proofs.put_scalars.Reads as reads
-use Rattle.stored.proofs.put_scalars.Lts as lts
-use Rattle.stored.proofs.put_number.Reads as put-number-reads
-use Rattle.stored.proofs.scalar.Reads as scalar-reads
-use Rattle.stored.proofs.scalar_slot.Reads as scalar-slot-reads
 
 abbrev Inv-loop : tie.InvT-loop
 Inv-loop r out₀ place₀ out place = (place ≤ 8) × ((length out ≡ length out₀) × Scalars r place out₀ out)

@@ -3,11 +3,6 @@ use Rattle.stored.proofs.Taking.{read-refused, good-length, read-good}
 use borrow.Author.Needs.{needs}
 use Rattle.stored.proofs.read.Statement.{statement}
 use Rattle.stored.proofs.read.Tie as tie
-use Rattle.stored.proofs.read.Reads as reads
-use Rattle.stored.proofs.read.Lts as lts
-use Rattle.stored.proofs.read_header.Reads as read-header-reads
-use Rattle.stored.proofs.read_numbers.Reads as read-numbers-reads
-use Rattle.stored.proofs.refused.Reads as refused-reads
 
 read-header-requires : tie.Need-read-header-requires
 read-header-requires c κs = search needs

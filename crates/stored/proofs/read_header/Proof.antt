@@ -3,9 +3,6 @@ use Rattle.stored.proofs.Taking.{heading}
 use borrow.Author.Needs.{needs}
 use Rattle.stored.proofs.read_header.Statement.{statement}
 use Rattle.stored.proofs.read_header.Tie as tie
-use Rattle.stored.proofs.read_header.Reads as reads
-use Rattle.stored.proofs.read_header.Lts as lts
-use Rattle.stored.proofs.number_in.Reads as number-in-reads
 
 returns : tie.Need-returns
 returns c = search heading

@@ -3,10 +3,6 @@ use Rattle.stored.proofs.Taking.{slot-four, read-outside, read-inside}
 use borrow.Author.Needs.{needs}
 use Rattle.stored.proofs.read_number.Statement.{statement}
 use Rattle.stored.proofs.read_number.Tie as tie
-use Rattle.stored.proofs.read_number.Reads as reads
-use Rattle.stored.proofs.read_number.Lts as lts
-use Rattle.base.proofs.is_between.Reads as is-between-reads
-use Rattle.stored.proofs.number_in.Reads as number-in-reads
 
 add-end : tie.Need-add-end
 add-end c = search needs

@@ -7,13 +7,6 @@ use Rattle.stored.proofs.Taking.{body-outside, is-byte, is-two-bytes, b
 use borrow.Author.Needs.{needs}
 use Rattle.stored.proofs.read_numbers.Statement.{statement}
 use Rattle.stored.proofs.read_numbers.Tie as tie
-use Rattle.stored.proofs.read_numbers.Reads as reads
-use Rattle.stored.proofs.read_numbers.Lts as lts
-use Rattle.stored.proofs.phase_of.Reads as phase-of-reads
-use Rattle.stored.proofs.read_number.Reads as read-number-reads
-use Rattle.stored.proofs.read_parameters.Reads as read-parameters-reads
-use Rattle.stored.proofs.refused.Reads as refused-reads
-use Rattle.stored.proofs.scalar_slot.Reads as scalar-slot-reads
 
 scalar-slot-requires : tie.Need-scalar-slot-requires
 scalar-slot-requires c κs = search needs

@@ -3,11 +3,6 @@ use Rattle.stored.proofs.Taking.{value-room, level-room, value-out, lev
 use borrow.Author.Needs.{needs}
 use Rattle.stored.proofs.read_parameter.Statement.{statement}
 use Rattle.stored.proofs.read_parameter.Tie as tie
-use Rattle.stored.proofs.read_parameter.Reads as reads
-use Rattle.stored.proofs.read_parameter.Lts as lts
-use Rattle.stored.proofs.level_slot.Reads as level-slot-reads
-use Rattle.stored.proofs.read_number.Reads as read-number-reads
-use Rattle.stored.proofs.value_slot.Reads as value-slot-reads
 
 value-slot-requires : tie.Need-value-slot-requires
 value-slot-requires c κs = search needs

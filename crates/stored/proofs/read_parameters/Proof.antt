@@ -8,11 +8,6 @@ use Rattle.stored.proofs.Taking.{taken, Further, begun, one-outside, bo
 use borrow.Author.Needs.{needs}
 use Rattle.stored.proofs.read_parameters.Statement.{statement}
 use Rattle.stored.proofs.read_parameters.Tie as tie
-use Rattle.stored.proofs.read_parameters.Reads as reads
-use Rattle.stored.proofs.read_parameters.Lts as lts
-use Rattle.state.proofs.range_at.Reads as range-at-reads
-use Rattle.stored.proofs.read_parameter.Reads as read-parameter-reads
-use Rattle.stored.proofs.refused.Reads as refused-reads
 
 abbrev Inv-loop2 : tie.InvT-loop2
 Inv-loop2 s filled₀ recipe kind₀ filled kind = (recipe < recipes) × ((kind ≤ 3) × Further s filled₀ (3 * recipe) filled (3 * recipe + kind))

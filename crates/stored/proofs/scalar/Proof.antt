@@ -4,11 +4,6 @@ use Rattle.stored.proofs.Writing.{number-here, number-there, number-las
 use borrow.Author.Needs.{needs}
 use Rattle.stored.proofs.scalar.Statement.{statement}
 use Rattle.stored.proofs.scalar.Tie as tie
-use Rattle.stored.proofs.scalar.Reads as reads
-use Rattle.stored.proofs.scalar.Lts as lts
-use Rattle.base.proofs.wide.Reads as wide-reads
-use Rattle.state.proofs.phase_number.Reads as phase-number-reads
-use Rattle.stored.proofs.flags.Reads as flags-reads
 
 wide-requires : tie.Need-wide-requires
 wide-requires c κs = search needs

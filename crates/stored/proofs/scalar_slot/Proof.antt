@@ -3,9 +3,6 @@ use Rattle.stored.proofs.Slots.{scalar-here, scalar-last}
 use borrow.Author.Needs.{needs}
 use Rattle.stored.proofs.scalar_slot.Statement.{statement}
 use Rattle.stored.proofs.scalar_slot.Tie as tie
-use Rattle.stored.proofs.scalar_slot.Reads as reads
-use Rattle.stored.proofs.scalar_slot.Lts as lts
-use Rattle.stored.proofs.slot_of.Reads as slot-of-reads
 
 slot-of-requires : tie.Need-slot-of-requires
 slot-of-requires c κs = search needs

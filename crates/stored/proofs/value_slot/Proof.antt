@@ -3,9 +3,6 @@ use Rattle.stored.proofs.Slots.{value-is}
 use borrow.Author.Needs.{needs}
 use Rattle.stored.proofs.value_slot.Statement.{statement}
 use Rattle.stored.proofs.value_slot.Tie as tie
-use Rattle.stored.proofs.value_slot.Reads as reads
-use Rattle.stored.proofs.value_slot.Lts as lts
-use Rattle.stored.proofs.slot_of.Reads as slot-of-reads
 
 mul-slot-of : tie.Need-mul-slot-of
 mul-slot-of c = search needs

@@ -5,12 +5,6 @@ use Rattle.stored.proofs.Slots.{stored-177}
 use borrow.Author.Needs.{needs}
 use Rattle.stored.proofs.write.Statement.{statement}
 use Rattle.stored.proofs.write.Tie as tie
-use Rattle.stored.proofs.write.Reads as reads
-use Rattle.stored.proofs.write.Lts as lts
-use Rattle.state.proofs.Record.valid.Reads as valid-reads
-use Rattle.stored.proofs.put_header.Reads as put-header-reads
-use Rattle.stored.proofs.put_parameters.Reads as put-parameters-reads
-use Rattle.stored.proofs.put_scalars.Reads as put-scalars-reads
 
 valid-requires : tie.Need-valid-requires
 valid-requires c κs = search needs
