@@ -22,7 +22,7 @@ use Rattle.state.specs.Event.{running, stopped}
 use Rattle.state.specs.Event as event
 use Rattle.frame.specs.declared.Kind.{Kind}
 use Rattle.frame.specs.Frame.{allText, namesUnit, addressIn, frameOf, textIn, withinLimits, marksRight, checkRight}
-use Rattle.frame.proofs.Laws.{over-take}
+use Rattle.base.proofs.Lists.{over-take}
 use Rattle.frame.proofs.RoundTrip.{frame-located}
 use Rattle.command.specs.Word.{digits, valueOf}
 use Rattle.command.specs.Status.{inPhases, isOn, first, statusCharacters}

@@ -22,7 +22,8 @@ use Rattle.frame.specs.Numbers.{Answer, H, S, accepted, unit, builtAs, addresse
 use Rattle.frame.specs.Answer.{buildOf, locateOf, addressed, addressOf}
 use Rattle.base.specs.Test.{unless}
 use Rattle.base.specs.Lists.{over}
-use Rattle.frame.proofs.Laws.{Sizes, addressed-named, found-text, found-sizes, framed-built, frame-length, over-length, over-held, over-over, part-back}
+use Rattle.base.proofs.Lists.{over-length, over-over}
+use Rattle.frame.proofs.Laws.{Sizes, addressed-named, found-text, found-sizes, framed-built, frame-length, over-held, part-back}
 use Rattle.command.specs.declared.Request.{Request}
 use Rattle.command.specs.declared.Served.{Served}
 use Rattle.command.specs.Word.{digits}

@@ -2,12 +2,12 @@
 use Prim.Native.Nat.{ℕ, _+_, _^_, _≤_, _<_}
 use mathlib.Core.Bool.{true}
 use mathlib.Core.Path.{_≡_, refl, sym, ap, subst, _∙_}
-use mathlib.Core.List.{List, _++_, append-nil}
+use mathlib.Core.List.{List}
 use mathlib.Core.Logic.{⊎-elim}
 use native.Mathlib.Omega.{arith}
-use lib.ListN.{length, drop}
-use lib.Seq.{drop-length}
+use lib.ListN.{length}
 use borrow.Author.Tests.{eq-eqb, ne-eqb, le-leb, lt-leb}
+use Rattle.base.proofs.Lists.{over-all}
 use Rattle.base.specs.Lists.{over}
 use Rattle.state.specs.declared.Record.{Record}
 use Rattle.state.specs.declared.Event.{Event}
@@ -116,14 +116,9 @@ written r o b w v l e =
     let d : writeOf r o ≡ (done, over (storedForm r) o) = simp (v, le-leb _ _ l) in
     ap (λ (p : stored.Outcome × List ℕ). p .1) (e ∙ d)
 
--- a list laid over one of its own length
-pub over-whole : (f o : List ℕ) → length f ≡ length o → over f o ≡ f
-unfolding over
-over-whole f o e = ap (λ (n : ℕ). f ++ drop n o) e ∙ (ap (λ (l : List ℕ). f ++ l) (drop-length o) ∙ append-nil f)
-
 -- in place of stored bytes that were read
 replaced : (r : Record) (s b : List ℕ) (w : Written) → valid r ≡ true → length s ≡ storedLength current → (writtenAs w, b) ≡ writeOf r s → b ≡ storedForm r
-replaced r s b w v l e = written r s b w v (omega arith) e ∙ over-whole (storedForm r) s (form-length r ∙ sym l)
+replaced r s b w v l e = written r s b w v (omega arith) e ∙ over-all (storedForm r) s (omega (arith, form-length r))
 
 -- ---- `khuyapesh_stored`
 pub stored-short : (s o : List ℕ) → length o < 177 → (storedAnswer (K 6), o) ≡ storedBytes s o

@@ -10,6 +10,7 @@ use lib.Dec.{eqb, leb}
 use lib.ListN.{length, take, drop, getD}
 use lib.Seq.{take-length}
 use borrow.Author.Tests.{eq-eqb, ne-eqb, le-leb, leb-true}
+use Rattle.base.proofs.Lists.{over-all}
 use Rattle.base.specs.Test.{unless, between}
 use Rattle.base.specs.Lists.{over}
 use Rattle.state.specs.declared.Record.{Record}
@@ -30,7 +31,7 @@ use Rattle.frame.proofs.RoundTrip.{read-built}
 use Rattle.controller.specs.Call.{Outcome, silent, replied, callOf}
 use Rattle.controller.proofs.Theorems.{Silenced, Answered, every-input, call-keeps-valid}
 use Rattle.exports.specs.Bytes.{silenceAnswer, storedAnswer, noSuch, hostLeft, isKind, kindOf, isEvent, eventOf, callLeft, callRead, callBytes, panelRead, panelBytes, storedBytes, buildBytes, readBytes}
-use Rattle.exports.proofs.Steps.{tail-high, over-whole}
+use Rattle.exports.proofs.Steps.{tail-high}
 
 -- what holds of both holds of the one that a test leaves
 either : {A : Type 0} (P : A → Type 0) (b : Bool) (x y : A) → P x → P y → P (unless b x y)
@@ -83,7 +84,7 @@ pub form-read : (r : Record) → valid r ≡ true → stored.readOf (storedForm 
 unfolding writeOf
 form-read r v =
     let l : storedLength current ≤ length (storedForm r) = omega (arith, form-length r) in
-    let w : writeOf r (storedForm r) ≡ (done, storedForm r) = simp (v, le-leb _ _ l) (ap (λ (x : List ℕ). (done, x)) (over-whole (storedForm r) (storedForm r) refl)) in
+    let w : writeOf r (storedForm r) ≡ (done, storedForm r) = simp (v, le-leb _ _ l) (ap (λ (x : List ℕ). (done, x)) (over-all (storedForm r) (storedForm r) (omega arith))) in
     let t : take (storedLength current) (storedForm r) ≡ storedForm r =
     ap (λ (n : ℕ). take n (storedForm r)) (sym (form-length r)) ∙ take-length (storedForm r) in
     ap stored.readOf (sym t) ∙ read-written r (storedForm r) (storedForm r) w

@@ -1,14 +1,14 @@
 -- Laws on lists and on the definitions of specs/, for the proofs of this crate and of its callers. Assumes nothing.
 use mathlib.Core.Path.{_≡_, refl, ap, sym, subst, _∙_}
-use mathlib.Core.List.{List, [], _∷_, _++_, append-assoc, append-nil}
+use mathlib.Core.List.{List, [], _∷_, _++_, append-nil}
 use mathlib.Core.Bool.{Bool, true, false, _&&_}
 use Prim.Native.Nat.{ℕ, suc, _+_, _-_, _≤_, _<_}
 use native.Mathlib.Nat.{not-suc-le-zero}
 use native.Mathlib.Numerals.{add-one}
 use native.Mathlib.Omega.{arith}
 use lib.Dec.{leb, eqb}
-use lib.ListN.{length, take, drop, getD, set, length-append, length-drop, length-take}
-use lib.Seq.{drop-cons, drop-at, drop-drop, drop-length, getD-drop, getD-take, length-take-le, set-append-seam, take-at, take-length}
+use lib.ListN.{length, take, drop, getD, length-append, length-drop, length-take}
+use lib.Seq.{drop-cons, drop-length, getD-drop, getD-take, length-take-le, take-at, take-length}
 use borrow.Rule.Slice.PartMut.{putMid}
 use borrow.Author.Tests.{le-leb, leb-true, eqb-true}
 use Rattle.frame.specs.declared.Kind.{Kind}
@@ -28,33 +28,6 @@ use Rattle.base.specs.Lists.{over}
 -- ---- the bytes from i on: one, and those after it
 pub next : (s : List ℕ) (i : ℕ) → i < length s → drop i s ≡ getD s i 0 ∷ drop (i + 1) s
 next s i h = rw (add-one, drop-cons s i 0)
-
--- ---- a list laid over the start of another
-pub over-length : (f o : List ℕ) → length f ≤ length o → length (over f o) ≡ length o
-unfolding over
-over-length f o h = simp (length-append, length-drop) (omega arith)
-
--- what was laid stands at the start
-pub over-take : (f o : List ℕ) (n : ℕ) → length f ≡ n → take n (over f o) ≡ f
-unfolding over
-over-take f o n e = take-at f _ n e
-
--- one more byte
-pub over-put : (f o : List ℕ) (i b : ℕ) → i ≡ length f → i < length o → set (over f o) i b ≡ over (f ++ (b ∷ [])) o
-unfolding over
-over-put f o i b e h =
-    let l : length f < length o = omega (arith, e) in
-    rw (e, drop-cons o (length f) 0 l, set-append-seam, length-append, append-assoc, add-one)
-
--- a longer list hides a shorter one
-pub over-over : (f p o : List ℕ) → length p ≤ length f → over f (over p o) ≡ over f o
-unfolding over
-over-over f p o h =
-    let e : length p + (length f - length p) ≡ length f = omega arith in
-    ap (λ (l : List ℕ). f ++ l)
-    (ap (λ (n : ℕ). drop n (p ++ drop (length p) o)) (sym e) ∙ sym (drop-drop (length f - length p) (length p) (p ++ drop (length p) o))
-    ∙ ap (drop (length f - length p)) (drop-at p (drop (length p) o) (length p) refl) ∙ drop-drop (length f - length p) (length p) o
-    ∙ ap (λ (n : ℕ). drop n o) e)
 
 -- ---- the text that a buffer holds from its second byte on
 pub held-length : (n : ℕ) (o : List ℕ) → n < length o → length (take n (drop 1 o)) ≡ n

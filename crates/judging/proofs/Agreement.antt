@@ -20,7 +20,8 @@ use Rattle.frame.specs.declared.Kind.the-variants.{Minicomputer}
 use Rattle.frame.specs.Frame.{allText, namesUnit, addressIn, frameOf, textIn, withinLimits, marksRight, checkRight}
 use Rattle.frame.specs.Numbers.{accepted, unit}
 use Rattle.frame.specs.Answer.{locateOf, readOf, addressOf}
-use Rattle.frame.proofs.Laws.{over-take, found, found-located, Taken, taken, Named, named, named-addressed}
+use Rattle.base.proofs.Lists.{over-take}
+use Rattle.frame.proofs.Laws.{found, found-located, Taken, taken, Named, named, named-addressed}
 use Rattle.frame.proofs.RoundTrip.{reframed}
 use Rattle.command.specs.Word.{digits}
 use Rattle.command.specs.Answer.{verdict, replyFor, replyText, recordAfter}

@@ -13,12 +13,12 @@ use lib.Seq.{getD-append-add}
 use borrow.Author.Tests.{eqb-true, ltb-true, ltb-false}
 use Rattle.base.proofs.Tests.{holds-below, below-or-not}
 use Rattle.state.specs.declared.Record.{Record}
-use Rattle.state.specs.Parameter.{parameterCount, rangeAt}
+use Rattle.state.specs.Parameter.{parameterCount}
 use Rattle.state.specs.Field.{Field, address, access, phase, keypad, flow, changed, reset, powerfail, recipe, preset, raw, number, value, level, get, position, fieldRange, fieldsFor, parameterFields, recordFrom}
 use Rattle.state.specs.Valid.{within, valid}
 use Rattle.state.proofs.Fields.{Held, same-field}
 use Rattle.state.proofs.Kept.{field-in}
-use Rattle.state.proofs.Whole.{get-from, from-valid}
+use Rattle.state.proofs.Whole.{get-from, from-valid, low-within}
 use Rattle.knowledge.specs.declared.Knowledge.{Knowledge}
 use Rattle.knowledge.specs.Sets.{single, kindOf, only, has, any}
 use Rattle.knowledge.specs.Knowledge.{codeAt, start, startCode}
@@ -127,27 +127,6 @@ each-start a c P x y z number = z number
 each-start a c P x y z (value i) = z (value i)
 each-start a c P x y z (level i) = z (level i)
 
--- the low end of a range is in it
-value-low : (i : ℕ) → i < parameterCount → within (rangeAt i) (rangeAt i .low) ≡ true
-unfolding rangeAt
-value-low i h = holds-below (λ (j : ℕ). within (rangeAt j) (rangeAt j .low)) parameterCount refl i h
-
-low-in : (f : Field) → Held f → within (fieldRange f) (fieldRange f .low) ≡ true
-low-in address h = refl
-low-in access h = refl
-low-in phase h = refl
-low-in keypad h = refl
-low-in flow h = refl
-low-in changed h = refl
-low-in reset h = refl
-low-in powerfail h = refl
-low-in recipe h = refl
-low-in preset h = refl
-low-in raw h = refl
-low-in number h = refl
-low-in (value i) h = value-low i (omega arith)
-low-in (level i) h = refl
-
 -- ---- the records of the start
 module _ (a c : ℕ) where
   pub start-possible : (r : Record) → valid r ≡ true → get address r ≡ a → get access r ≡ c → Possible (start a c) r
@@ -175,7 +154,7 @@ module _ (a c : ℕ) where
         some =
             λ alive f h.
             let s = each-start a c (λ g d. Held g → (n : ℕ) × (has g d n ≡ true)) (λ l. (a, only-has address a a refl p (only-self a)))
-            (λ l. (c, only-has access c c refl q (only-self c))) (λ g l. (fieldRange g .low, any-has g (fieldRange g .low) (low-in g l))) f h in
+            (λ l. (c, only-has access c c refl q (only-self c))) (λ g l. (fieldRange g .low, any-has g (fieldRange g .low) (low-within g l))) f h in
             (s .0, ap (λ (d : ℕ). has f d (s .0)) (start-code a c f h) ∙ s .1);
       }
 

@@ -17,7 +17,7 @@ use Rattle.state.specs.Field.{address, access, recipe, level, get, put}
 use Rattle.state.specs.Valid.{allIn, valid}
 use Rattle.frame.specs.declared.Kind.the-variants.{Minicomputer}
 use Rattle.frame.specs.Frame.{namesUnit, addressIn, xorFrom, frameOf, textIn, withinLimits, marksRight, checkRight}
-use Rattle.frame.proofs.Laws.{over-take}
+use Rattle.base.proofs.Lists.{over-take}
 use Rattle.command.specs.Word.{digits, valueFrom}
 use Rattle.command.specs.Status.{statusCharacters}
 use Rattle.command.specs.Commands as commands

@@ -17,7 +17,7 @@ use Rattle.state.specs.Valid.{valid}
 use Rattle.frame.specs.declared.Kind.{Kind}
 use Rattle.frame.specs.declared.Kind.the-variants.{Minicomputer}
 use Rattle.frame.specs.Frame.{allText, namesUnit, addressIn, frameOf, textIn, withinLimits, marksRight, checkRight}
-use Rattle.frame.proofs.Laws.{over-take}
+use Rattle.base.proofs.Lists.{over-take}
 use Rattle.command.specs.Answer.{replyText}
 use Rattle.controller.specs.Call.{Outcome, silent, replied, callOf}
 use Rattle.recording.specs.Form.{Exchange, Recording, J, recorded, recordingOf}

@@ -9,9 +9,9 @@ use native.Mathlib.Nat.{eq-or-lt-of-le}
 use native.Mathlib.Omega.{arith}
 use lib.ListN.{length, getD, length-append, List·getD-append}
 use lib.Seq.{getD-append-add, ext-getD}
-use Rattle.base.proofs.Tests.{between-high}
+use Rattle.base.proofs.Tests.{between-high, holds-below}
 use Rattle.state.specs.declared.Record.{Record}
-use Rattle.state.specs.Parameter.{parameterCount}
+use Rattle.state.specs.Parameter.{parameterCount, rangeAt}
 use Rattle.state.specs.Field.{Field, address, access, phase, keypad, flow, changed, reset, powerfail, recipe, preset, raw, number, value, level, get, fieldRange, phaseOf, flagOf, flagNumber, listed, recordFrom}
 use Rattle.state.specs.Valid.{within, valid}
 use Rattle.state.proofs.Fields.{Held, phase-back, phase-number, flag-back, flag-number}
@@ -111,3 +111,21 @@ module _ (w : Field → ℕ) (inside : (f : Field) → Held f → within (fieldR
   from-valid =
       fields-in (recordFrom w) (λ f h. ap (within (fieldRange f)) (get-from f h) ∙ inside f h)
       (listed-length (λ i. w (value i)) parameterCount) (listed-length (λ i. w (level i)) parameterCount)
+
+-- each field's low end lies in its range
+pub low-within : (f : Field) → Held f → within (fieldRange f) (fieldRange f .low) ≡ true
+unfolding rangeAt
+low-within address h = refl
+low-within access h = refl
+low-within phase h = refl
+low-within keypad h = refl
+low-within flow h = refl
+low-within changed h = refl
+low-within reset h = refl
+low-within powerfail h = refl
+low-within recipe h = refl
+low-within preset h = refl
+low-within raw h = refl
+low-within number h = refl
+low-within (value i) h = holds-below (λ (j : ℕ). within (rangeAt j) (rangeAt j .low)) parameterCount refl i (omega arith)
+low-within (level i) h = refl

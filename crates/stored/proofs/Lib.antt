@@ -1,4 +1,3 @@
-pub mod ListLaws
 pub mod Bytes
 pub mod Slots
 pub mod LowRecord

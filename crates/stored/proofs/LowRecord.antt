@@ -14,7 +14,7 @@ use Rattle.state.specs.Parameter.{parameterCount, rangeAt}
 use Rattle.state.specs.Field.{phaseOf, listed, recordFrom}
 use Rattle.state.proofs.Whole.{listed-length}
 use Rattle.stored.specs.Form.{lowRecord}
-use Rattle.stored.proofs.ListLaws.{set-over, over-all}
+use Rattle.base.proofs.Lists.{over-put, over-all}
 
 abbrev pub lows : ℕ → List ℕ
 lows n = listed (λ (i : ℕ). rangeAt i .low) n
@@ -29,7 +29,7 @@ unfolding listed
 low-more vs ws i g l h e q =
     ap (λ (x : List ℕ). set x i (g .low)) q ∙
     (ap (λ (r : Range). set (over (lows i) vs) i (r .low)) e ∙
-    (set-over (lows i) vs i (rangeAt i .low) (listed-length (λ (j : ℕ). rangeAt j .low) i) (omega arith) ∙
+    (over-put (lows i) vs i (rangeAt i .low) (sym (listed-length (λ (j : ℕ). rangeAt j .low) i)) (omega arith) ∙
     ap (λ (k : ℕ). over (lows k) vs) (sym (add-one i))))
 
 pub low-is : (vs ws : List ℕ) (i : ℕ) → length vs ≡ parameterCount → i ≤ parameterCount → parameterCount ≤ i → ws ≡ over (lows i) vs

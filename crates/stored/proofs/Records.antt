@@ -8,16 +8,16 @@ use native.Mathlib.Nat.{pow-suc}
 use native.Mathlib.Omega.{arith}
 use lib.Dec.{eqb, ltb}
 use lib.ListN.{length}
-use borrow.Author.Tests.{eq-eqb, eqb-true, eqb-false, ltb-true}
+use borrow.Author.Tests.{eq-eqb, eqb-true, eqb-false, ltb-true, not-true}
 use Rattle.base.proofs.Tests.{and-yes, and-left, and-right, between-yes, between-high, holds-below, by-test}
 use Rattle.state.specs.declared.Record.{Record}
-use Rattle.state.specs.Parameter.{parameterCount, rangeAt}
-use Rattle.state.specs.Field.{Field, address, access, phase, keypad, flow, changed, reset, powerfail, recipe, preset, raw, number, value, level, position, get, put, fieldRange, off, on}
+use Rattle.state.specs.Parameter.{parameterCount}
+use Rattle.state.specs.Field.{Field, value, position, get, put, fieldRange, off, on}
 use Rattle.state.specs.Valid.{within, valid}
 use Rattle.state.proofs.Fields.{Held, same-field, get-put-same, get-put-other}
 use Rattle.state.proofs.Kept.{field-in, put-kept}
 use Rattle.state.proofs.Validity.{valid-tell}
-use Rattle.state.proofs.Whole.{same-fields, from-valid}
+use Rattle.state.proofs.Whole.{same-fields, from-valid, low-within}
 use Rattle.stored.specs.Layout.{Item, alone, together, current, items, itemWidth, itemSlot, slotsFrom, bits, itemNumber, numbersOf, putBits, putItem, putAll}
 use Rattle.stored.specs.Form.{inSlot, allIn, lowRecord}
 
@@ -72,10 +72,6 @@ or-right : (a b : Bool) → b ≡ true → (a || b) ≡ true
 or-right true b h = refl
 or-right false b h = h
 
-not-so : (a : Bool) → not a ≡ true → a ≡ false
-not-so true h = absurd (false≢true h)
-not-so false h = refl
-
 held-is : (f : Field) → held f ≡ true → Held f
 held-is f h = ltb-true _ _ h
 
@@ -105,7 +101,7 @@ first-tells f fs h =
     record {
       is-held = held-is f (and-left (held f) (flag f) a);
       is-flag = and-right (held f) (flag f) a;
-      once = not-so _ (and-left (not (among fs (position f))) (flags fs) b);
+      once = not-true _ (and-left (not (among fs (position f))) (flags fs) b);
       rest = and-right (not (among fs (position f))) (flags fs) b;
     }
 
@@ -194,26 +190,8 @@ apart-tells : (fs : List Field) (xs : List Item) → apart fs xs ≡ true → (g
 apart-tells [] xs h g m = absurd (false≢true m)
 apart-tells (f ∷ fs) xs h g m =
     either (eqb (position f) (position g)) (among fs (position g)) m
-    (λ e. ap (namesIn xs) (sym (eqb-true _ _ e)) ∙ not-so _ (and-left (not (namesIn xs (position f))) (apart fs xs) h))
+    (λ e. ap (namesIn xs) (sym (eqb-true _ _ e)) ∙ not-true _ (and-left (not (namesIn xs (position f))) (apart fs xs) h))
     (λ e. apart-tells fs xs (and-right (not (namesIn xs (position f))) (apart fs xs) h) g e)
-
--- each field's low end lies in its range
-low-within : (f : Field) → Held f → within (fieldRange f) (fieldRange f .low) ≡ true
-unfolding rangeAt
-low-within address h = refl
-low-within access h = refl
-low-within phase h = refl
-low-within keypad h = refl
-low-within flow h = refl
-low-within changed h = refl
-low-within reset h = refl
-low-within powerfail h = refl
-low-within recipe h = refl
-low-within preset h = refl
-low-within raw h = refl
-low-within number h = refl
-low-within (value i) h = holds-below (λ (j : ℕ). within (rangeAt j) (rangeAt j .low)) parameterCount refl i (omega arith)
-low-within (level i) h = refl
 
 -- ---- items
 module _ (x : Item) (xs : List Item) (h : sound (x ∷ xs) ≡ true) where
@@ -265,7 +243,7 @@ all-in at (x ∷ xs) r h v =
 item-back : (at : ℕ) (x : Item) (xs : List Item) (n : ℕ) (ns : List ℕ) (s : Record) → soundItem x xs ≡ true → inSlot (itemSlot at x) n ≡ true → valid s ≡ true
     → itemNumber (putAll xs ns (putItem x n s)) x ≡ n
 item-back at (alone w f) xs n ns s h i v =
-    all-other xs ns (put f n s) f (not-so _ (and-right (held f) (not (namesIn xs (position f))) h)) ∙
+    all-other xs ns (put f n s) f (not-true _ (and-right (held f) (not (namesIn xs (position f))) h)) ∙
     own s v f (held-is f (and-left (held f) (not (namesIn xs (position f))) h)) n i
 item-back at (together fs) xs n ns s h i v =
     let k = flags-told fs xs h in

@@ -17,8 +17,8 @@ use Rattle.state.specs.Parameter.{rangeAt}
 use Rattle.state.specs.Valid.{valid}
 use Rattle.stored.specs.declared.Slot.{Slot}
 use Rattle.stored.specs.Layout.{Item, current, items, headerWidth, itemWidth, totalWidth, itemSlot, slotsFrom, numbersOf, putAll}
-use Rattle.stored.specs.Form.{Outcome, K, done, bigEndian, numberOf, pack, packed, numberAt, numbersIn, inSlot, allIn, storedLength, heading, storedForm, writeOf, headerOf, lowRecord, takenFrom, bodyOf, afterHeader, readOf}
-use Rattle.stored.proofs.ListLaws.{over-take}
+use Rattle.stored.specs.Form.{Outcome, K, done, bigEndian, numberOf, pack, packed, numberAt, numbersIn, inSlot, allIn, storedLength, headerBytes, storedForm, writeOf, headerOf, lowRecord, takenFrom, bodyOf, afterHeader, readOf}
+use Rattle.base.proofs.Lists.{over-take}
 use Rattle.stored.proofs.Bytes.{Bytes, big-length, number-big, big-number}
 use Rattle.stored.proofs.Slots.{slot-width}
 use Rattle.stored.proofs.Taking.{refused-done}
@@ -160,15 +160,15 @@ slots-fit : allFit (slotsFrom headerWidth (items current)) ≡ true
 unfolding slotsFrom rangeAt
 slots-fit = refl
 
-header-length : length heading ≡ headerWidth
+header-length : length headerBytes ≡ headerWidth
 header-length = let b = big-length 2 (storedLength current) in omega arith
 
 module _ (r : Record) (v : valid r ≡ true) where
   form-numbers : numbersIn (slotsFrom headerWidth (items current)) (storedForm r) ≡ numbersOf (items current) r
   unfolding storedForm
   form-numbers =
-      ap (λ (k : ℕ). numbersIn (slotsFrom k (items current)) (heading ++ packed (items current) r)) (sym header-length) ∙
-      numbers-back heading (items current) (numbersOf (items current) r) (numbers-length (items current) r)
+      ap (λ (k : ℕ). numbersIn (slotsFrom k (items current)) (headerBytes ++ packed (items current) r)) (sym header-length) ∙
+      numbers-back headerBytes (items current) (numbersOf (items current) r) (numbers-length (items current) r)
       (ap (λ (k : ℕ). allFit (slotsFrom k (items current))) header-length ∙ slots-fit)
       (ap (λ (k : ℕ). allIn (slotsFrom k (items current)) (numbersOf (items current) r)) header-length ∙ numbers-in headerWidth r v)
 

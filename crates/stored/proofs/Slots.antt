@@ -98,6 +98,19 @@ module _ (s : Slot) (k : ℕ) (e : s ≡ getD scalarSlots k noSlot) (h : k < 8) 
   pub scalar-short : s .width ≤ 4
   scalar-short = let r = slot-narrow headerWidth scalarItems k refl h in let w = ap (λ (t : Slot). t .width) e in omega arith
 
--- ---- the slot of a parameter's value
-pub value-is : (i : ℕ) (g : Range) (s : Slot) → g ≡ rangeAt i → s ≡ slotOf (17 + 5 * i) 4 (g .low) (g .high) → s ≡ itemSlot (parametersAt + 5 * i) (alone 4 (value i))
+-- ---- the slots of a parameter's value and level
+abbrev pub valueSlot : ℕ → Slot
+valueSlot i = itemSlot (parametersAt + 5 * i) (alone 4 (value i))
+
+abbrev pub levelSlot : ℕ → Slot
+levelSlot i = itemSlot (parametersAt + 5 * i + 4) (alone 1 (level i))
+
+pub value-is : (i : ℕ) (g : Range) (s : Slot) → g ≡ rangeAt i → s ≡ slotOf (17 + 5 * i) 4 (g .low) (g .high) → s ≡ valueSlot i
 value-is i g s e q = q ∙ ap (λ (r : Range). slotOf (17 + 5 * i) 4 (r .low) (r .high)) e
+
+-- where they end, and how wide they are
+pub value-ends : (i : ℕ) (s : Slot) → s ≡ valueSlot i → (s .at + s .width ≡ 21 + 5 * i) × (s .width ≡ 4)
+value-ends i s e = let a = ap (λ (t : Slot). t .at) e in let w = ap (λ (t : Slot). t .width) e in (omega arith, w)
+
+pub level-ends : (i : ℕ) (s : Slot) → s ≡ levelSlot i → (s .at + s .width ≡ 22 + 5 * i) × (s .width ≡ 1)
+level-ends i s e = let a = ap (λ (t : Slot). t .at) e in let w = ap (λ (t : Slot). t .width) e in (omega arith, w)

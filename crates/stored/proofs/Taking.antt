@@ -29,8 +29,8 @@ use Rattle.stored.specs.declared.Parameter.the-variants as parameter
 use Rattle.stored.specs.declared.Slot.{Slot}
 use Rattle.stored.specs.Layout.{Item, alone, scalarItems, parameterItems, current, headerWidth, itemWidth, totalWidth, parametersAt, itemSlot, slotsFrom, scalarSlots, noSlot, putItem, putBits, putAll}
 use Rattle.stored.specs.Form.{Outcome, K, done, refusalNumber, headerAs, numberOf, numberAt, numbersIn, inSlot, allIn, storedLength, headerOf, lowRecord, takenFrom, bodyOf, afterHeader, readOf, numberRead, pairRead, parameterRead}
-use Rattle.stored.proofs.ListLaws.{set-over, over-all}
-use Rattle.stored.proofs.Slots.{pair, parameters-width, stored-177}
+use Rattle.base.proofs.Lists.{over-put, over-all}
+use Rattle.stored.proofs.Slots.{pair, valueSlot, levelSlot, parameters-width, stored-177}
 
 -- ---- the header
 module _ (s : List ℕ) where
@@ -160,22 +160,6 @@ all-read bs at (x ∷ xs) [] r h = absurd h
 all-read bs at (x ∷ xs) (n ∷ ns) r h = taken-inside bs at x xs r n (h .0) ∙ all-read bs (at + itemWidth x) xs ns (putItem x n r) (h .1)
 
 -- ---- one parameter
-abbrev valueSlot : ℕ → Slot
-valueSlot i = itemSlot (parametersAt + 5 * i) (alone 4 (value i))
-
-abbrev levelSlot : ℕ → Slot
-levelSlot i = itemSlot (parametersAt + 5 * i + 4) (alone 1 (level i))
-
--- its slots lie in the bytes
-module _ (i : ℕ) (bs : List ℕ) (below : i < parameterCount) (long : length bs ≡ storedLength current) where
-  pub value-room : (s : Slot) → s ≡ valueSlot i → (s .at + s .width ≤ length bs) × (s .width ≤ 4)
-  value-room s e =
-      let a = ap (λ (t : Slot). t .at) e in let w = ap (λ (t : Slot). t .width) e in (omega (arith, stored-177), omega arith)
-
-  pub level-room : (s : Slot) → s ≡ levelSlot i → (s .at + s .width ≤ length bs) × (s .width ≤ 4)
-  level-room s e =
-      let a = ap (λ (t : Slot). t .at) e in let w = ap (λ (t : Slot). t .width) e in (omega (arith, stored-177), omega arith)
-
 module _ (i : ℕ) (bs : List ℕ) (s : Slot) (x : Number) (q : s ≡ valueSlot i) (e : x ≡ numberRead s bs) where
   by-value : x ≡ numberRead (valueSlot i) bs
   by-value = e ∙ ap (λ (t : Slot). numberRead t bs) q
@@ -335,8 +319,8 @@ module _ (bs : List ℕ) where
         → withLists (set (over (values n) vs) n (numberAt bs (valueSlot n))) (set (over (levels n) ls) n (numberAt bs (levelSlot n))) r ≡ laid (suc n)
     unfolding listed
     laid-next n p q =
-        let v = set-over (values n) vs n (numberAt bs (valueSlot n)) (listed-length (λ (i : ℕ). numberAt bs (valueSlot i)) n) p in
-        let l = set-over (levels n) ls n (numberAt bs (levelSlot n)) (listed-length (λ (i : ℕ). numberAt bs (levelSlot i)) n) q in
+        let v = over-put (values n) vs n (numberAt bs (valueSlot n)) (sym (listed-length (λ (i : ℕ). numberAt bs (valueSlot i)) n)) p in
+        let l = over-put (levels n) ls n (numberAt bs (levelSlot n)) (sym (listed-length (λ (i : ℕ). numberAt bs (levelSlot i)) n)) q in
         ap (λ (x : List ℕ). withLists x (set (over (levels n) ls) n (numberAt bs (levelSlot n))) r) v ∙ ap (λ (x : List ℕ). withLists (over (values (suc n)) vs) x r) l
 
     all-laid : (n : ℕ) → n ≤ length vs → n ≤ length ls → taken (withLists vs ls r) n ≡ unless (allBoth n) (K 4, lowRecord) (done, laid n)

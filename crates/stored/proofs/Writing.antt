@@ -13,16 +13,19 @@ use borrow.Rule.Slice.PartMut.{putMid}
 use Rattle.base.specs.Lists.{over}
 use Rattle.state.specs.declared.Record.{Record}
 use Rattle.state.specs.Parameter.{parameterCount}
-use Rattle.state.specs.Field.{value, level, phaseNumber}
+use Rattle.state.specs.Field.{phaseNumber}
 use Rattle.state.specs.Valid.{valid}
 use Rattle.stored.specs.declared.Slot.{Slot}
 use Rattle.stored.specs.Layout.{Item, alone, together, scalarItems, parameterItems, current, items, headerWidth, itemWidth, totalWidth, parametersAt, itemSlot, slotsFrom, scalarSlots, noSlot, itemNumber, numbersOf, bits, flagFields}
-use Rattle.stored.specs.Form.{K, done, bigEndian, pack, packed, stored, storedLength, heading, storedForm, writeOf}
-use Rattle.stored.proofs.ListLaws.{map-append}
+use Rattle.stored.specs.Form.{K, done, bigEndian, pack, packed, stored, storedLength, headerBytes, storedForm, writeOf}
 use Rattle.stored.proofs.Bytes.{big-length, sets-append, sets-next, sets-over, part-filled}
-use Rattle.stored.proofs.Slots.{pair, parameters-width, stored-177, Others, last-place}
+use Rattle.stored.proofs.Slots.{pair, valueSlot, levelSlot, parameters-width, stored-177, Others, last-place}
 
 -- ---- the numbers of a list of items
+map-append : {A B : Type 0} (f : A → B) (xs ys : List A) → map f (xs ++ ys) ≡ map f xs ++ map f ys
+map-append f [] ys = refl
+map-append f (x ∷ xs) ys = ap (λ (l : List _). f x ∷ l) (map-append f xs ys)
+
 pub numbers-length : (xs : List Item) (r : Record) → length (numbersOf xs r) ≡ length xs
 unfolding numbersOf
 numbers-length xs r = length-map xs (itemNumber r)
@@ -102,14 +105,6 @@ scalars-all r k o z l h e =
     let q : k ≡ 8 = omega arith in e ∙ ap (λ (j : ℕ). sets o headerWidth (pack (take j scalarItems) (take j (numbersOf scalarItems r)))) q
 
 -- ---- the parameters'
-
--- where their slots end
-pub value-fits : (i : ℕ) (s : Slot) → s ≡ itemSlot (parametersAt + 5 * i) (alone 4 (value i)) → s .at + s .width ≡ 21 + 5 * i
-value-fits i s e = let a = ap (λ (t : Slot). t .at) e in let w = ap (λ (t : Slot). t .width) e in omega arith
-
-pub level-fits : (i : ℕ) (s : Slot) → s ≡ itemSlot (parametersAt + 5 * i + 4) (alone 1 (level i)) → s .at + s .width ≡ 22 + 5 * i
-level-fits i s e = let a = ap (λ (t : Slot). t .at) e in let w = ap (λ (t : Slot). t .width) e in omega arith
-
 abbrev pub Parameters : Record → ℕ → List ℕ → List ℕ → Type 0
 Parameters r i o z = z ≡ sets o parametersAt (packed (parameterItems i) r)
 
@@ -118,8 +113,8 @@ unfolding pack numbersOf
 parameters-none r o = refl
 
 pub parameters-more : (r : Record) (i n m : ℕ) (s t : Slot) (o y x z : List ℕ) → i < parameterCount → Parameters r i o y
-    → n ≡ getD (r .values) i 0 → s ≡ itemSlot (parametersAt + 5 * i) (alone 4 (value i)) → x ≡ stored s n y
-    → m ≡ getD (r .levels) i 0 → t ≡ itemSlot (parametersAt + 5 * i + 4) (alone 1 (level i)) → z ≡ stored t m x → Parameters r (i + 1) o z
+    → n ≡ getD (r .values) i 0 → s ≡ valueSlot i → x ≡ stored s n y
+    → m ≡ getD (r .levels) i 0 → t ≡ levelSlot i → z ≡ stored t m x → Parameters r (i + 1) o z
 unfolding pack numbersOf bigEndian
 parameters-more r i n m s t o y x z h q en es ex em et ez =
     let v : ℕ = getD (r .values) i 0 in
@@ -144,13 +139,13 @@ parameters-all r i o z l h e = let q : i ≡ parameterCount = omega arith in e �
 
 -- ---- the header
 module _ (o ys : List ℕ) (room : 3 ≤ length o) (filled : ys ≡ bigEndian (length (take 2 (drop 1 (set o 0 1)))) 177) where
-  pub header-put : putMid 1 2 (set o 0 1) ys ≡ sets o 0 heading
+  pub header-put : putMid 1 2 (set o 0 1) ys ≡ sets o 0 headerBytes
   header-put =
       let l = length-set o 0 1 in
       part-filled 1 2 177 (set o 0 1) ys (omega arith) filled ∙ ap (λ (n : ℕ). sets (set o 0 1) 1 (bigEndian 2 n)) (sym stored-177)
 
   pub header-same : length (putMid 1 2 (set o 0 1) ys) ≡ length o
-  header-same = ap length header-put ∙ length-sets o 0 heading
+  header-same = ap length header-put ∙ length-sets o 0 headerBytes
 
 -- ---- all
 pub form-length : (r : Record) → length (storedForm r) ≡ storedLength current
@@ -158,7 +153,7 @@ unfolding storedForm storedLength
 form-length r =
     let b = big-length 2 (storedLength current) in
     let p = packed-length (items current) r in
-    length-append heading (packed (items current) r) ∙ omega arith
+    length-append headerBytes (packed (items current) r) ∙ omega arith
 
 module _ (r : Record) (o : List ℕ) (b : Bool) (v : b ≡ valid r) where
   pub write-invalid : not b ≡ true → (K 5, o) ≡ writeOf r o
@@ -169,19 +164,19 @@ module _ (r : Record) (o : List ℕ) (b : Bool) (v : b ≡ valid r) where
   unfolding writeOf
   write-short n h = simp (sym v ∙ not-false b n, stored-177, lt-leb 177 (length o) h)
 
-  pub write-whole : (x y z : List ℕ) → not b ≡ false → 177 ≤ length o → x ≡ sets o 0 heading → y ≡ sets x headerWidth (packed scalarItems r)
+  pub write-whole : (x y z : List ℕ) → not b ≡ false → 177 ≤ length o → x ≡ sets o 0 headerBytes → y ≡ sets x headerWidth (packed scalarItems r)
       → z ≡ sets y parametersAt (packed (parameterItems parameterCount) r) → (done, z) ≡ writeOf r o
   unfolding writeOf storedForm
   write-whole x y z n h ex ey ez =
-      let l : length heading ≡ 3 = let c = big-length 2 (storedLength current) in omega arith in
+      let l : length headerBytes ≡ 3 = let c = big-length 2 (storedLength current) in omega arith in
       let m = packed-length scalarItems r in
-      let k : length (heading ++ packed scalarItems r) ≡ parametersAt = length-append heading (packed scalarItems r) ∙ omega arith in
-      let y₁ : y ≡ sets o 0 (heading ++ packed scalarItems r) = ey ∙ sets-next o x 0 headerWidth heading (packed scalarItems r) ex (omega arith) in
-      let z₁ : z ≡ sets o 0 ((heading ++ packed scalarItems r) ++ packed (parameterItems parameterCount) r) =
-      ez ∙ sets-next o y 0 parametersAt (heading ++ packed scalarItems r) (packed (parameterItems parameterCount) r) y₁ (omega arith) in
-      let whole : (heading ++ packed scalarItems r) ++ packed (parameterItems parameterCount) r ≡ storedForm r =
-      append-assoc heading (packed scalarItems r) (packed (parameterItems parameterCount) r) ∙
-      ap (λ (t : List ℕ). heading ++ t) (sym (packed-append scalarItems (parameterItems parameterCount) r)) in
+      let k : length (headerBytes ++ packed scalarItems r) ≡ parametersAt = length-append headerBytes (packed scalarItems r) ∙ omega arith in
+      let y₁ : y ≡ sets o 0 (headerBytes ++ packed scalarItems r) = ey ∙ sets-next o x 0 headerWidth headerBytes (packed scalarItems r) ex (omega arith) in
+      let z₁ : z ≡ sets o 0 ((headerBytes ++ packed scalarItems r) ++ packed (parameterItems parameterCount) r) =
+      ez ∙ sets-next o y 0 parametersAt (headerBytes ++ packed scalarItems r) (packed (parameterItems parameterCount) r) y₁ (omega arith) in
+      let whole : (headerBytes ++ packed scalarItems r) ++ packed (parameterItems parameterCount) r ≡ storedForm r =
+      append-assoc headerBytes (packed scalarItems r) (packed (parameterItems parameterCount) r) ∙
+      ap (λ (t : List ℕ). headerBytes ++ t) (sym (packed-append scalarItems (parameterItems parameterCount) r)) in
       let z₂ : z ≡ over (storedForm r) o = z₁ ∙ (ap (sets o 0) whole ∙ sets-over (storedForm r) o (omega (arith, form-length r, stored-177))) in
       ap (λ (t : List ℕ). (done, t)) z₂ ∙ simp (sym v ∙ not-false b n, stored-177, le-leb 177 (length o) h)
 

@@ -97,11 +97,11 @@ allIn (s ∷ ss) (n ∷ ns) = inSlot s n && allIn ss ns
 unfoldable pub storedLength : ℕ → ℕ
 storedLength version = pick (eqb version current) (headerWidth + totalWidth (items version)) 0
 
-abbrev pub heading : List ℕ
-heading = current ∷ bigEndian 2 (storedLength current)
+abbrev pub headerBytes : List ℕ
+headerBytes = current ∷ bigEndian 2 (storedLength current)
 
 unfoldable pub storedForm : Record → List ℕ
-storedForm r = heading ++ packed (items current) r
+storedForm r = headerBytes ++ packed (items current) r
 
 -- ---- writing: "it refuses K5 record not valid, K6 buffer under 177; buffer untouched"
 unfoldable pub writeOf : Record → List ℕ → Outcome × List ℕ

@@ -12,7 +12,7 @@ ghost use lib.Seq.{sets};
 ghost use Rattle.state.specs.Parameter.{parameterCount, rangeAt};
 ghost use Rattle.state.specs.Field.{value, level, phaseOf, flagNumber};
 ghost use Rattle.stored.specs.Layout.{alone, scalarItems, parameterItems, current, headerWidth, parametersAt, itemSlot, slotOf, scalarSlots, noSlot, flagFields, bits, numbersOf};
-ghost use Rattle.stored.specs.Form.{headerAs, answerAs, writtenAs, refusalNumber, K, bigEndian, numberOf, packed, stored, storedLength, heading, writeOf, headerOf, lowRecord, takenFrom, bodyOf, readOf, numberRead, parameterRead};
+ghost use Rattle.stored.specs.Form.{headerAs, answerAs, writtenAs, refusalNumber, K, bigEndian, numberOf, packed, stored, storedLength, headerBytes, writeOf, headerOf, lowRecord, takenFrom, bodyOf, readOf, numberRead, parameterRead};
 
 // The version that is written.
 pub const VERSION: u8 = 1;
@@ -202,7 +202,7 @@ fn flags(r: Record) -> u8
 // Stores the version and the length.
 fn put_header(out: &mut [u8])
     requires { ⌜ 3 ≤ length (now out) ⌝ }
-    ensures { λ _. ⌜ now (out .exit) ≡ sets (now (out .entry)) 0 heading ⌝ }
+    ensures { λ _. ⌜ now (out .exit) ≡ sets (now (out .entry)) 0 headerBytes ⌝ }
 {
     out[0] = VERSION;
     fill(STORED_LENGTH as u32, &mut out[1..3]);

@@ -4,8 +4,8 @@ use mathlib.Core.Path.{_≡_, refl}
 use native.Mathlib.Omega.{arith}
 use lib.ListN.{length}
 use Rattle.state.specs.Parameter.{parameterCount}
-use Rattle.stored.proofs.Writing.{value-fits, level-fits, Parameters, parameters-none, parameters-more, parameters-all}
-use Rattle.stored.proofs.Slots.{stored-177}
+use Rattle.stored.proofs.Writing.{Parameters, parameters-none, parameters-more, parameters-all}
+use Rattle.stored.proofs.Slots.{value-ends, level-ends, stored-177}
 use borrow.Author.Needs.{needs}
 use Rattle.stored.proofs.put_parameters.Statement.{statement}
 use Rattle.stored.proofs.put_parameters.Tie as tie
@@ -32,7 +32,7 @@ value-slot-requires : tie.Need-value-slot-requires Inv-loop μ-loop
 value-slot-requires c κs = search needs
 
 put-number-requires : tie.Need-put-number-requires Inv-loop μ-loop
-put-number-requires c κs = omega (arith, stored-177, value-fits _ _ (c .before .value-slot .ensures))
+put-number-requires c κs = omega (arith, stored-177, value-ends _ _ (c .before .value-slot .ensures) .0)
 
 element-copy-out-wide : tie.Need-element-copy-out-wide Inv-loop μ-loop
 element-copy-out-wide c = search needs
@@ -44,7 +44,7 @@ level-slot-requires : tie.Need-level-slot-requires Inv-loop μ-loop
 level-slot-requires c κs = search needs
 
 put-number-requires-2 : tie.Need-put-number-requires-2 Inv-loop μ-loop
-put-number-requires-2 c κs = omega (arith, stored-177, level-fits _ _ (c .before .level-slot .ensures))
+put-number-requires-2 c κs = omega (arith, stored-177, level-ends _ _ (c .before .level-slot .ensures) .0)
 
 add-i : tie.Need-add-i Inv-loop μ-loop
 add-i c = search needs

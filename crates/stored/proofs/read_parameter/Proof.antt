@@ -1,5 +1,7 @@
 -- `stored::read_parameter` meets its contract: the value's reader, then the level's. Assumes nothing.
-use Rattle.stored.proofs.Taking.{value-room, level-room, value-out, level-out, level-byte, both-in}
+use native.Mathlib.Omega.{arith}
+use Rattle.stored.proofs.Slots.{value-ends, level-ends, stored-177}
+use Rattle.stored.proofs.Taking.{value-out, level-out, level-byte, both-in}
 use borrow.Author.Needs.{needs}
 use Rattle.stored.proofs.read_parameter.Statement.{statement}
 use Rattle.stored.proofs.read_parameter.Tie as tie
@@ -8,7 +10,8 @@ value-slot-requires : tie.Need-value-slot-requires
 value-slot-requires c κs = search needs
 
 read-number-requires : tie.Need-read-number-requires
-read-number-requires c κs = value-room _ (c .before .before .args .s .now) (c .before .before .pre .0) (c .before .before .pre .1) _ (c .value-slot .ensures)
+read-number-requires c κs =
+    let e = value-ends _ _ (c .value-slot .ensures) in (omega (arith, stored-177, c .before .before .pre .0, c .before .before .pre .1, e .0), omega (arith, e .1))
 
 enum-known-value : tie.Need-enum-known-value
 enum-known-value c = search needs
@@ -23,7 +26,8 @@ level-slot-requires : tie.Need-level-slot-requires
 level-slot-requires c κs = search needs
 
 read-number-requires-2 : tie.Need-read-number-requires-2
-read-number-requires-2 c κs = level-room _ (c .before .before .before .before .before .before .before .args .s .now) (c .before .before .before .before .before .before .before .pre .0) (c .before .before .before .before .before .before .before .pre .1) _ (c .level-slot .ensures)
+read-number-requires-2 c κs =
+    let e = level-ends _ _ (c .level-slot .ensures) in (omega (arith, stored-177, c .before .before .before .before .before .before .before .pre .0, c .before .before .before .before .before .before .before .pre .1, e .0), omega (arith, e .1))
 
 enum-known-level : tie.Need-enum-known-level
 enum-known-level c = search needs
