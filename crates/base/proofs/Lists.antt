@@ -1,12 +1,21 @@
--- Laws of a list laid over the start of another. Assumes nothing.
-use Prim.Native.Nat.{ℕ, _+_, _-_, _≤_, _<_}
+-- Laws of lists: the rest from a place on, and a list laid over another. Assumes nothing.
+use Prim.Native.Nat.{ℕ, suc, _+_, _-_, _≤_, _<_}
 use mathlib.Core.Path.{_≡_, refl, sym, ap, _∙_}
 use mathlib.Core.List.{List, [], _∷_, _++_, append-assoc, append-nil}
+use mathlib.Core.Logic.{⊎-elim}
 use native.Mathlib.Numerals.{add-one}
 use native.Mathlib.Omega.{arith}
-use lib.ListN.{length, take, drop, set, length-append, length-drop, drop-of-length-le}
-use lib.Seq.{drop-cons, drop-at, drop-drop, set-append-seam, take-at}
-use Rattle.base.specs.Lists.{over}
+use lib.ListN.{length, take, drop, getD, set, length-append, length-drop, length-take, drop-of-length-le}
+use lib.Seq.{drop-cons, drop-at, drop-drop, length-take-le, paste-zero, set-append-seam, set-split, take-all, take-at}
+use borrow.Rule.Slice.PartMut.{putMid}
+use Rattle.base.specs.Lists.{over, overAt}
+use Rattle.base.proofs.Tests.{below-or-not}
+
+-- the bytes from i on: one, and those after it
+pub next : (s : List ℕ) (i : ℕ) → i < length s → drop i s ≡ getD s i 0 ∷ drop (i + 1) s
+next s i h = rw (add-one, drop-cons s i 0)
+
+-- ---- laid over the start
 
 -- its length stays
 pub over-length : (f o : List ℕ) → length f ≤ length o → length (over f o) ≡ length o
@@ -39,3 +48,75 @@ over-over f p o h =
 pub over-all : (f o : List ℕ) → length o ≤ length f → over f o ≡ f
 unfolding over
 over-all f o h = ap (λ (t : List ℕ). f ++ t) (drop-of-length-le o h) ∙ append-nil f
+
+-- ---- laid over a list from a place on
+pub over-at-none : (at : ℕ) (s : List ℕ) → overAt at [] s ≡ s
+unfolding overAt
+over-at-none at s = sym (paste-zero s at [] ∙ append-assoc (take at s) [] (drop (at + 0) s))
+
+pub over-at-start : (xs s : List ℕ) → overAt 0 xs s ≡ over xs s
+unfolding overAt over
+over-at-start xs s = let e : 0 + length xs ≡ length xs = omega arith in ap (λ (n : ℕ). xs ++ drop n s) e
+
+pub over-at-length : (at : ℕ) (xs s : List ℕ) → at + length xs ≤ length s → length (overAt at xs s) ≡ length s
+unfolding overAt
+over-at-length at xs s h = simp (length-append, length-take, length-drop) (omega arith)
+
+-- what stands up to the end of what was laid, and behind it
+over-at-split : (at : ℕ) (xs s : List ℕ)
+    → (take (at + length xs) (overAt at xs s) ≡ take at s ++ xs) × (drop (at + length xs) (overAt at xs s) ≡ drop (at + length xs) s)
+unfolding overAt
+over-at-split at xs s =
+    let n : ℕ = at + length xs in
+    let p : List ℕ = take at s ++ xs in
+    let g : take at s ++ (xs ++ drop n s) ≡ p ++ drop n s = sym (append-assoc (take at s) xs (drop n s)) in
+    ⊎-elim
+    (λ (h : at < length s).
+    let l : length p ≡ n = simp (length-append, length-take) (omega arith) in
+    (ap (take n) g ∙ take-at p (drop n s) n l, ap (drop n) g ∙ drop-at p (drop n s) n l))
+    (λ (h : length s ≤ at).
+    let l : length p ≤ n = simp (length-append, length-take) (omega arith) in
+    let k : length s ≤ n = omega arith in
+    let e : drop n s ≡ [] = drop-of-length-le s k in
+    let w : take at s ++ (xs ++ drop n s) ≡ p = g ∙ ap (λ (y : List ℕ). p ++ y) e ∙ append-nil p in
+    (ap (take n) w ∙ take-all n p l, ap (drop n) w ∙ drop-of-length-le p l ∙ sym e))
+    (below-or-not at (length s))
+
+over-at-behind : (at : ℕ) (xs ys s w : List ℕ) → take (at + length xs) w ≡ take at s ++ xs → drop (at + length xs) w ≡ drop (at + length xs) s
+    → overAt at (xs ++ ys) s ≡ overAt (at + length xs) ys w
+unfolding overAt
+over-at-behind at xs ys s w t d =
+    let n : ℕ = at + length xs in
+    let m : ℕ = length ys in
+    let e : at + length (xs ++ ys) ≡ n + m = simp length-append (omega arith) in
+    let a : take at s ++ ((xs ++ ys) ++ drop (n + m) s) ≡ (take at s ++ xs) ++ (ys ++ drop (n + m) s) = simp append-assoc in
+    let b : drop (n + m) s ≡ drop (n + m) w = sym (drop-drop m n s) ∙ ap (drop m) (sym d) ∙ drop-drop m n w in
+    ap (λ (k : ℕ). take at s ++ ((xs ++ ys) ++ drop k s)) e ∙ a ∙ ap (λ (y : List ℕ). (take at s ++ xs) ++ (ys ++ y)) b
+    ∙ ap (λ (y : List ℕ). y ++ (ys ++ drop (n + m) w)) (sym t)
+
+pub over-at-append : (at : ℕ) (xs ys s : List ℕ) → overAt at (xs ++ ys) s ≡ overAt (at + length xs) ys (overAt at xs s)
+over-at-append at xs ys s = let f = over-at-split at xs s in over-at-behind at xs ys s (overAt at xs s) (f .0) (f .1)
+
+-- one byte
+over-at-one : (n b : ℕ) (s : List ℕ) → n < length s → set s n b ≡ overAt n (b ∷ []) s
+unfolding overAt
+over-at-one n b s h = set-split s n b h ∙ ap (λ (k : ℕ). take n s ++ (b ∷ drop k s)) (sym (add-one n))
+
+-- one byte more
+pub over-at-put : (at n b : ℕ) (xs s : List ℕ) → n ≡ at + length xs → n < length s → set (overAt at xs s) n b ≡ overAt at (xs ++ (b ∷ [])) s
+over-at-put at n b xs s e h =
+    over-at-one n b (overAt at xs s) (omega (arith, over-at-length at xs s (omega arith))) ∙ ap (λ (k : ℕ). overAt k (b ∷ []) (overAt at xs s)) e
+    ∙ sym (over-at-append at xs (b ∷ []) s)
+
+-- what was written into the lent part from a place on
+pub over-at-part : (at k : ℕ) (ys o : List ℕ) → length ys ≡ k → putMid at k o ys ≡ overAt at ys o
+unfolding overAt
+over-at-part at k ys o e = ap (λ (y : List ℕ). take at o ++ (ys ++ y)) (drop-drop k at o ∙ ap (λ (i : ℕ). drop (at + i) o) (sym e))
+
+-- a list filled from its end: one more element before what is filled
+pub fill-before : (xs : List ℕ) (d l : ℕ) (o whole : List ℕ) → l < length o → (xs ++ (d ∷ [])) ++ drop (suc l) o ≡ whole
+    → xs ++ drop l (set o l d) ≡ whole
+fill-before xs d l o whole h e =
+    let f : drop l (set o l d) ≡ d ∷ drop (suc l) o =
+    ap (drop l) (set-split o l d h) ∙ drop-at (take l o) (d ∷ drop (suc l) o) l (length-take-le l o (omega arith)) in
+    ap (λ (y : List ℕ). xs ++ y) f ∙ sym (append-assoc xs (d ∷ []) (drop (suc l) o)) ∙ e

@@ -27,6 +27,10 @@ and-no true true h = absurd (h refl refl)
 and-no true false h = refl
 and-no false b h = refl
 
+pub and-never : (b : Bool) → (b && false) ≡ false
+and-never true = refl
+and-never false = refl
+
 pub and-left : (a b : Bool) → (a && b) ≡ true → a ≡ true
 and-left true b h = refl
 and-left false b h = h

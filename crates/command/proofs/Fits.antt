@@ -1,39 +1,104 @@
--- An accepted request's changes fit the record: each names one of its fields and a number within that field's range. Assumes nothing.
+-- What a text asks for is sound: its code stands in the table and its arguments fit, so that what an accepted request changes fits the record.
+-- One line for a command. Assumes nothing.
 use Prim.Native.Nat.{ℕ, _^_, _≤_, _<_}
-use mathlib.Core.Bool.{Bool, true, false, _&&_}
-use mathlib.Core.Path.{_≡_, refl}
-use mathlib.Core.List.{List, [], _∷_}
+use mathlib.Core.Bool.{Bool, true, false, not, _&&_, _||_, false≢true, or-false}
+use mathlib.Core.Path.{_≡_, refl, sym, ap, subst, _∙_}
+use mathlib.Core.List.{List, [], _∷_, map}
 use native.Mathlib.Nat.{pow-le-pow-right}
 use native.Mathlib.Omega.{arith}
-use lib.Dec.{eqb, leb}
+use lib.Dec.{eqb, ltb}
 use lib.ListN.{length, drop}
-use borrow.Author.Tests.{leb-true, ltb-true}
-use Rattle.base.specs.Text.{text}
+use borrow.Author.Tests.{eqb-true, ltb-true, ltb-false, not-false}
 use Rattle.state.specs.declared.Record.{Record}
-use Rattle.base.specs.Test.{pick, between}
-use Rattle.state.specs.Parameter.{recipes, parameterCount, rangeAt}
-use Rattle.state.specs.Valid.{within, valid}
-use Rattle.base.proofs.Tests.{and-left, and-right, between-yes, between-high}
-use Rattle.state.proofs.Kept.{next-in}
-use Rattle.command.specs.declared.Request.{Request}
-use Rattle.command.specs.declared.Request.the-variants.{Unknown, Malformed, NotServed, Status, Codes, Number, Recipe, Composition, Raw, Value, Level, SetValue, SetLevel, SelectRecipe, SetBatch, Start, Stop, End, ClearReset, ClearChanged}
-use Rattle.command.specs.Word.{space, valueOf, oneOf, allDigits}
-use Rattle.command.specs.Commands.{EQ, RS, TN, RR, RC, RT, PV, XV, PC, XC, NR, SB, SA, SP, ET, RE, codeIn, Form, words, nothing, parameter, parameterAnd, aNumber, formed, digitsBetween, behindSpace}
-use Rattle.command.specs.Answer.{accepted}
-use Rattle.command.specs.Request.{refusedUnless, listed, placeFor, guarded, guards, verdictFor, changes, whole, volumeOf, flagOf, requestFor, requestOf, parameterOf, lastOf}
-use Rattle.command.proofs.Parsing.{value-below}
-use Rattle.command.proofs.Applying.{first-passed, second-passed, test-passed}
+use Rattle.base.specs.Test.{pick, between, member}
+use Rattle.base.specs.Text.{text}
+use Rattle.state.specs.Parameter.{parameterCount, rangeAt}
+use Rattle.state.specs.Field.{reset, changed, recipe, preset, level, fieldRange, off}
+use Rattle.state.specs.Valid.{within}
+use Rattle.base.proofs.Tests.{by-test, and-left, and-right, between-yes, between-high}
+use Rattle.text.specs.Word.{space, valueOf, allDigits, equal}
+use Rattle.command.specs.Commands.{PV, XV, PC, XC, NR, SB, codeIn, Command, Arguments, aNumber, formed, digitsBetween, commands, rowOf, _≔_}
+use Rattle.command.specs.Refusals.{Row, byText, byArguments, byField, rowNumber, refusals, of, argumentsFor, unknownCode, notServed, malformed, listed, unknownParameter, unknownRecipe, outOfRange}
+use Rattle.command.specs.Answer.{Verdict, NO, accepted, behindCode, argumentsIn, verdict}
+use Rattle.command.specs.Request.{Asked, refused, asked, firstByText, firstByArguments, unlessRefused, askedWith, askedFor, askedIn}
+use Rattle.text.proofs.Words.{value-below}
 use Rattle.command.proofs.Tables.{Fitting}
+use Rattle.command.proofs.Agree.{accepted-asked}
 
--- ---- a batch that a text asks for has at most six digits
-abbrev pub Bounded : Request → Type 0
-Bounded q = (n : ℕ) → q ≡ SetBatch n → n ≤ 999999
+-- ---- every code of the table
+abbrev pub codes : List ℕ
+codes = map (λ (k : Command). k .code) commands
 
-picked : (b : Bool) (q k : Request) → (b ≡ true → Bounded q) → Bounded k → Bounded (pick b q k)
-picked true q k f g = f refl
-picked false q k f g = g
+abbrev pub All : (ℕ → Type 0) → List ℕ → Type 0
+All P [] = Unit {0}
+All P (c ∷ cs) = P c × All P cs
 
-digits-small : (xs : List ℕ) → formed (aNumber 1 6) xs ≡ true → valueOf (drop 1 xs) ≤ 999999
+pub by-member : (P : ℕ → Type 0) (cs : List ℕ) → All P cs → (c : ℕ) → member c cs ≡ true → P c
+by-member P [] all c m = let z : _≡_ {A = ℕ} 0 1 = cc in absurd (omega arith)
+by-member P (d ∷ cs) all c m = by-test (eqb c d) (λ e. subst P (sym (eqb-true c d e)) (all .0)) (λ e. by-member P cs (all .1) c (simp e at m))
+
+-- ---- what a text that is not refused by itself says of its code and arguments
+pub record Sound (c : ℕ) (x : Arguments) : Type 0 where
+  pub known : member c codes ≡ true
+  pub placed : of (PV ∷ XV ∷ PC ∷ XC ∷ []) c ≡ true → x .place < parameterCount
+  pub valued : of (PC ∷ []) c ≡ true → within (rangeAt (x .place)) (x .number) ≡ true
+  pub levelled : of (XC ∷ []) c ≡ true → within (fieldRange (level (x .place))) (x .number) ≡ true
+  pub among : of (NR ∷ []) c ≡ true → within (fieldRange recipe) (x .number) ≡ true
+  pub counted : of (SB ∷ []) c ≡ true → within (fieldRange preset) (x .number) ≡ true
+
+abbrev pub SoundAsked : Asked → Type 0
+SoundAsked (refused n) = n < 100
+SoundAsked (asked c x) = Sound c x
+
+-- every refusal number has two digits
+abbrev pub twoDigits : List Row → Bool
+twoDigits [] = true
+twoDigits (row ∷ rows) = ltb (rowNumber row) 100 && twoDigits rows
+
+abbrev Below : Verdict → Type 0
+Below (NO n) = n < 100
+Below accepted = Unit {0}
+
+picked-below : (b : Bool) (n : ℕ) (v : Verdict) → n < 100 → Below v → Below (pick b (NO n) v)
+picked-below true n v l h = l
+picked-below false n v l h = h
+
+text-below : (c : ℕ) (xs : List ℕ) (rows : List Row) → twoDigits rows ≡ true → Below (firstByText rows c xs)
+unfolding firstByText
+text-below c xs [] h = tt
+text-below c xs (byText m p ∷ rows) h =
+    picked-below (p c xs) m _ (ltb-true m 100 (and-left (ltb m 100) (twoDigits rows) h)) (text-below c xs rows (and-right (ltb m 100) (twoDigits rows) h))
+text-below c xs (byArguments m p ∷ rows) h = text-below c xs rows (and-right (ltb m 100) (twoDigits rows) h)
+text-below c xs (byField m cs f p ∷ rows) h = text-below c xs rows (and-right (ltb m 100) (twoDigits rows) h)
+
+arguments-below : (c : ℕ) (x : Arguments) (rows : List Row) → twoDigits rows ≡ true → Below (firstByArguments rows c x)
+unfolding firstByArguments
+arguments-below c x [] h = tt
+arguments-below c x (byText m p ∷ rows) h = arguments-below c x rows (and-right (ltb m 100) (twoDigits rows) h)
+arguments-below c x (byArguments m p ∷ rows) h =
+    picked-below (p c x) m _ (ltb-true m 100 (and-left (ltb m 100) (twoDigits rows) h)) (arguments-below c x rows (and-right (ltb m 100) (twoDigits rows) h))
+arguments-below c x (byField m cs f p ∷ rows) h = arguments-below c x rows (and-right (ltb m 100) (twoDigits rows) h)
+
+-- a row that was passed does not apply
+passed : (b : Bool) (n : ℕ) (v : Verdict) → pick b (NO n) v ≡ accepted → (b ≡ false) × (v ≡ accepted)
+passed true n v e = let z : _≡_ {A = ℕ} 0 1 = cc in absurd (omega arith)
+passed false n v e = (refl, e)
+
+-- a test for some codes that does not hold does not hold for one of them
+told : (b t : Bool) → (b && t) ≡ false → b ≡ true → t ≡ false
+told true t e h = e
+told false t e h = let z : _≡_ {A = ℕ} 0 1 = cc in absurd (omega arith)
+
+neither : (a b : Bool) → (a || b) ≡ false → (a ≡ false) × (b ≡ false)
+neither true b e = let z : _≡_ {A = ℕ} 0 1 = cc in absurd (omega arith)
+neither false b e = (refl, e)
+
+shaped-so : (a b : Bool) → (a && not b) ≡ false → b ≡ false → a ≡ false
+shaped-so true b p q = absurd (false≢true (sym p ∙ ap (λ (z : Bool). not z) q))
+shaped-so false b p q = refl
+
+-- a batch that a text asks for has at most six digits
+digits-small : (xs : List ℕ) → formed (aNumber 1 6) xs ≡ true → valueOf (drop 1 xs) ≤ fieldRange preset .high
 unfolding formed digitsBetween
 digits-small [] h = let z : _≡_ {A = ℕ} 0 1 = cc in absurd (omega arith)
 digits-small (x ∷ xs) h =
@@ -42,91 +107,92 @@ digits-small (x ∷ xs) h =
     let p : 10 ^ length xs ≤ 10 ^ 6 = pow-le-pow-right {n = 10} (omega arith) {i = length xs} {j = 6} l in
     omega (arith, value-below xs 0 (and-right (between 1 6 (length xs)) (allDigits xs) d))
 
-never : {A : Type 0} → _≡_ {A = ℕ} 0 1 → A
-never z = absurd (omega arith)
+batch-small : (c : ℕ) (xs : List ℕ) → c ≡ SB → formed (rowOf c commands .form) xs ≡ true → argumentsFor c xs .number ≤ fieldRange preset .high
+unfolding rowOf
+batch-small c xs e h = subst (λ (d : ℕ). argumentsFor d xs .number ≤ 999999) (sym e) (digits-small xs (sym (ap (λ (d : ℕ). formed (rowOf d commands .form) xs) e) ∙ h))
 
-volume-bounded : (xs : List ℕ) → Bounded (volumeOf xs)
-unfolding volumeOf
-volume-bounded xs =
-    let others : Bool = behindSpace (oneOf ((0x47 ∷ []) ∷ (0x4e ∷ []) ∷ (0x50 ∷ []) ∷ (0x4d ∷ []) ∷ [])) xs in
-    picked (formed (words (text "R" ∷ [])) xs) Raw (pick others NotServed Malformed) (λ h n q. never (cc))
-    (picked others NotServed Malformed (λ h n q. never (cc)) (λ n q. never (cc)))
+sound-for : (c : ℕ) (xs : List ℕ) → firstByText refusals c xs ≡ accepted → firstByArguments refusals c (argumentsFor c xs) ≡ accepted → Sound c (argumentsFor c xs)
+unfolding firstByText firstByArguments
+sound-for c xs e h =
+    let x : Arguments = argumentsFor c xs in
+    let (known, e₁) = passed (unknownCode c xs) 0 _ e in
+    let (shaped, e₂) = passed (malformed c xs) 1 _ e₁ in
+    let (served, e₃) = passed (notServed c xs) 8 _ e₂ in
+    let (parameter, h₁) = passed (unknownParameter c x) 4 _ h in
+    let (named, h₂) = passed (unknownRecipe c x) 30 _ h₁ in
+    let (range, h₃) = passed (outOfRange c x) 6 _ h₂ in
+    let (others, batch) = neither _ (of (SB ∷ []) c && eqb (x .number) 0) range in
+    let (value, above) = neither (of (PC ∷ []) c && not (within (rangeAt (x .place)) (x .number))) (of (XC ∷ []) c && ltb 3 (x .number)) others in
+    record {
+      known = not-false (member c codes) known;
+      placed = λ b. ltb-true (x .place) parameterCount (not-false (listed (x .place)) (told (of (PV ∷ XV ∷ PC ∷ XC ∷ []) c) _ parameter b));
+      valued = λ b. not-false (within (rangeAt (x .place)) (x .number)) (told (of (PC ∷ []) c) _ value b);
+      levelled = λ b. between-yes _ _ (x .number) (omega arith) (ltb-false 3 (x .number) (told (of (XC ∷ []) c) _ above b));
+      among = λ b. not-false (within (fieldRange recipe) (x .number)) (told (of (NR ∷ []) c) _ named b);
+      counted =
+          λ b.
+          between-yes _ _ (x .number) (omega arith) (batch-small c xs (eqb-true c SB (sym (or-false (eqb c SB)) ∙ b)) (not-false (formed (rowOf c commands .form) xs) (shaped-so (not (formed (rowOf c commands .form) xs)) (notServed c xs) shaped served)));
+    }
 
-flag-bounded : (xs : List ℕ) → Bounded (flagOf xs)
-unfolding flagOf
-flag-bounded xs =
-    let is : List ℕ → Bool = λ w. behindSpace (oneOf (w ∷ [])) xs in
-    picked (is (text "BD")) ClearReset (pick (is (text "PC")) ClearChanged (pick (is (text "PF")) NotServed Malformed)) (λ h n q. never (cc))
-    (picked (is (text "PC")) ClearChanged (pick (is (text "PF")) NotServed Malformed) (λ h n q. never (cc))
-    (picked (is (text "PF")) NotServed Malformed (λ h n q. never (cc)) (λ n q. never (cc))))
+pub asked-sound : (t : List ℕ) → SoundAsked (askedIn t)
+unfolding askedIn askedFor askedWith
+asked-sound t =
+    go (firstByText refusals c xs) refl (text-below c xs refusals refl) (firstByArguments refusals c (argumentsIn t)) refl
+    (arguments-below c (argumentsIn t) refusals refl)
+  where
+    c : ℕ
+    c = codeIn t
 
-either : (b : Bool) (q k : Request) → Bounded q → Bounded k → Bounded (pick b q k)
-either b q k f g = picked b q k (λ h. f) g
+    xs : List ℕ
+    xs = behindCode t
 
-if-formed : (f : Form) (xs : List ℕ) (q : Request) → (formed f xs ≡ true → Bounded q) → Bounded (whole f xs q)
-if-formed f xs q h = picked (formed f xs) q Malformed h (λ n e. never (cc))
+    go : (u : Verdict) → firstByText refusals c xs ≡ u → Below u → (v : Verdict) → firstByArguments refusals c (argumentsIn t) ≡ v → Below v
+        → SoundAsked (unlessRefused u (unlessRefused v (asked c (argumentsIn t))))
+    go (NO n) e l v h m = l
+    go accepted e l (NO n) h m = m
+    go accepted e l accepted h m = sound-for c xs e h
 
-request-bounded : (c : ℕ) (xs : List ℕ) → Bounded (requestFor c xs)
-unfolding requestFor
-request-bounded c xs =
-    either (eqb c EQ) _ _ (if-formed nothing xs Status (λ h n e. never (cc)))
-    (either (eqb c RS) _ _ (if-formed nothing xs Codes (λ h n e. never (cc)))
-    (either (eqb c TN) _ _ (if-formed nothing xs Number (λ h n e. never (cc)))
-    (either (eqb c RR) _ _ (if-formed nothing xs Recipe (λ h n e. never (cc)))
-    (either (eqb c RC) _ _ (if-formed nothing xs Composition (λ h n e. never (cc)))
-    (either (eqb c RT) _ _ (volume-bounded xs)
-    (either (eqb c PV) _ _ (if-formed parameter xs (Value (parameterOf true xs)) (λ h n e. never (cc)))
-    (either (eqb c XV) _ _ (if-formed parameter xs (Level (parameterOf true xs)) (λ h n e. never (cc)))
-    (either (eqb c PC) _ _ (if-formed (parameterAnd 1 8) xs (SetValue (parameterOf true xs) (lastOf true 8 xs)) (λ h n e. never (cc)))
-    (either (eqb c XC) _ _ (if-formed (parameterAnd 1 1) xs (SetLevel (parameterOf true xs) (lastOf true 1 xs)) (λ h n e. never (cc)))
-    (either (eqb c NR) _ _ (if-formed (aNumber 2 2) xs (SelectRecipe (lastOf false 2 xs)) (λ h n e. never (cc)))
-    (either (eqb c SB) _ _ (if-formed (aNumber 1 6) xs (SetBatch (lastOf false 6 xs)) (λ h n e. let z : lastOf false 6 xs ≡ n = cc in let d = digits-small xs h in omega arith))
-    (either (eqb c SA) _ _ (if-formed nothing xs Start (λ h n e. never (cc)))
-    (either (eqb c SP) _ _ (if-formed nothing xs Stop (λ h n e. never (cc)))
-    (either (eqb c ET) _ _ (if-formed nothing xs End (λ h n e. never (cc)))
-    (either (eqb c RE) _ _ (flag-bounded xs)
-    (λ n e. never (cc)))))))))))))))))
+-- ---- what a sound request changes fits the record
+flag-fits : (b : Bool) → Fitting ((pick b reset changed ≔ off) ∷ [])
+flag-fits true = (omega arith, omega arith, refl, tt)
+flag-fits false = (omega arith, omega arith, refl, tt)
 
-pub asked-bounded : (t : List ℕ) → Bounded (requestOf t)
-unfolding requestOf
-asked-bounded t = request-bounded (codeIn t) (drop 4 t)
+infixr 20 _also_
+pub _also_ : {A B : Type 0} → A → B → A × B
+a also b = (a, b)
 
--- ---- the changes of an accepted request fit
-module _ (r : Record) (v : valid r ≡ true) where
-  place-in : (i : ℕ) → refusedUnless (listed i) 4 ≡ accepted → i < parameterCount
-  place-in i h = ltb-true i parameterCount (test-passed (listed i) 4 h)
+pub effect-fits : (c : ℕ) (x : Arguments) → Sound c x → Fitting (rowOf c commands .effect x)
+unfolding rowOf
+effect-fits c x s = by-member (λ (d : ℕ). Sound d x → Fitting (rowOf d commands .effect x)) codes each c (s .known) s
+  where
+    each : All (λ (d : ℕ). Sound d x → Fitting (rowOf d commands .effect x)) codes
+    each =
+        -- EQ, RS, TN, RR, RC, RT, PV, XV
+        (λ s. tt) also (λ s. tt) also (λ s. tt) also (λ s. tt) also (λ s. tt) also (λ s. tt) also (λ s. tt) also (λ s. tt) also
+        -- PC
+        (λ s. let l = s .placed refl in (omega arith, omega arith, s .valued refl, (omega arith, omega arith, refl, tt))) also
+        -- XC
+        (λ s. let l = s .placed refl in (omega arith, omega arith, s .levelled refl, tt)) also
+        -- NR
+        (λ s. (omega arith, omega arith, s .among refl, tt)) also
+        -- SB
+        (λ s. (
+          omega arith,
+          omega arith,
+          refl,
+          (
+            omega arith,
+            omega arith,
+            s .counted refl,
+            (omega arith, omega arith, refl, (omega arith, omega arith, refl, tt)),
+          ),
+        )) also
+        -- SA, SP, ET
+        (λ s. (omega arith, omega arith, refl, tt)) also (λ s. (omega arith, omega arith, refl, tt)) also (λ s. (omega arith, omega arith, refl, tt)) also
+        -- RE
+        (λ s. flag-fits (equal (x .word) (text "BD"))) also
+        tt
 
-  fits : (q : Request) → Bounded q → verdictFor q r ≡ accepted → Fitting (changes q r)
-  unfolding verdictFor
-  fits Unknown b h = tt
-  fits Malformed b h = tt
-  fits NotServed b h = tt
-  fits Status b h = tt
-  fits Codes b h = tt
-  fits Number b h = tt
-  fits Recipe b h = tt
-  fits Composition b h = tt
-  fits Raw b h = tt
-  fits (Value p) b h = tt
-  fits (Level p) b h = tt
-  fits (SetValue p n) b h =
-      let a = first-passed _ (guarded (guards (r .access) (SetValue p n)) r) h in
-      let l = place-in (placeFor p) (first-passed _ (refusedUnless (within (rangeAt (placeFor p)) n) 6) a) in
-      (omega arith, test-passed (within (rangeAt (placeFor p)) n) 6 (second-passed (refusedUnless (listed (placeFor p)) 4) _ a), (omega arith, refl, tt))
-  fits (SetLevel p l) b h =
-      let a = first-passed _ (guarded (guards (r .access) (SetLevel p l)) r) h in
-      let i = place-in (placeFor p) (first-passed _ (refusedUnless (leb l 3) 6) a) in
-      let m : l ≤ 3 = leb-true l 3 (test-passed (leb l 3) 6 (second-passed (refusedUnless (listed (placeFor p)) 4) _ a)) in
-      (omega arith, between-yes 0 3 l (omega arith) m, tt)
-  fits (SelectRecipe n) b h =
-      (omega arith, test-passed (between 1 recipes n) 30 (first-passed _ (guarded (guards (r .access) (SelectRecipe n)) r) h), tt)
-  fits (SetBatch n) b h =
-      (omega arith, refl, (omega arith, between-yes 0 999999 n (omega arith) (b n refl), (omega arith, refl, (omega arith, refl, (omega arith, next-in r v, tt)))))
-  fits Start b h = (omega arith, refl, tt)
-  fits Stop b h = (omega arith, refl, tt)
-  fits End b h = (omega arith, refl, tt)
-  fits ClearReset b h = (omega arith, refl, tt)
-  fits ClearChanged b h = (omega arith, refl, tt)
-
-  pub accepted-fits : (t : List ℕ) → verdictFor (requestOf t) r ≡ accepted → Fitting (changes (requestOf t) r)
-  accepted-fits t h = fits (requestOf t) (asked-bounded t) h
+-- what an accepted text changes fits the record
+pub accepted-fits : (t : List ℕ) (r : Record) → verdict t r ≡ accepted → Fitting (rowOf (codeIn t) commands .effect (argumentsIn t))
+accepted-fits t r h = effect-fits (codeIn t) (argumentsIn t) (subst SoundAsked (accepted-asked t r h) (asked-sound t))

@@ -1,6 +1,5 @@
 pub mod Parsing
-pub mod Deciding
-pub mod Applying
-pub mod Agree
 pub mod Tables
+pub mod Agree
 pub mod Fits
+pub mod Serving

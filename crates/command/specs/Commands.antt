@@ -9,10 +9,10 @@ use Rattle.state.specs.declared.Record.{Record}
 use Rattle.state.specs.declared.Place.{Place}
 use Rattle.state.specs.declared.Place.the-variants.{At, Nothing}
 use Rattle.base.specs.Test.{pick, between}
-use Rattle.state.specs.Parameter.{parameterCount, placeOf}
+use Rattle.state.specs.Parameter.{parameterCount, placeOf, codeAt}
 use Rattle.state.specs.Field.{Field, phase, changed, reset, recipe, preset, raw, number, value, level, get, put, on, off}
 use Rattle.state.specs.Event.{idle, set, running, stopped, nextNumber}
-use Rattle.command.specs.Word.{space, digits, allDigits, valueOf, equal, oneOf}
+use Rattle.text.specs.Word.{space, digits, allDigits, valueOf, equal, oneOf}
 use Rattle.command.specs.Status.{statusCharacters, statusCodes, codesOn}
 
 -- ---- the codes, two letters as one number
@@ -112,97 +112,126 @@ formed (numbers false least most) xs = lastNumber least most xs
 formed (numbers true least most) xs = behindSpace (λ (ys : List ℕ). digitsBetween 3 3 (take 3 ys) && lastNumber least most (drop 3 ys)) xs
 formed (words ws) xs = behindSpace (oneOf ws) xs
 
--- ---- the arguments of a text of a right form
+-- ---- the arguments: a parameter by its place, a number, a word; 0, 0 and no word where the form has none
+pub record Arguments : Type 0 where
+  pub place : ℕ
+  pub number : ℕ
+  pub word : List ℕ
 
--- what stands behind the code and a space
-abbrev pub argument : List ℕ → List ℕ
-argument t = drop 5 t
+abbrev pub none : Arguments
+none = record { place = 0; number = 0; word = [] }
 
--- "ppp": the parameter code, and its place; beyond the last place if there is none
-unfoldable pub parameterIn : List ℕ → ℕ
-parameterIn t = valueOf (take 3 (argument t))
+abbrev pub aPlace : ℕ → ℕ → Arguments
+aPlace i n = record { place = i; number = n; word = [] }
 
+abbrev pub aWord : List ℕ → Arguments
+aWord w = record { place = 0; number = 0; word = w }
+
+-- the place of a parameter code; beyond the last if it has none
 abbrev pub placeNumber : Place → ℕ
 placeNumber (At i) = i
 placeNumber Nothing = parameterCount
 
-unfoldable pub placeIn : List ℕ → ℕ
-placeIn t = placeNumber (placeOf (parameterIn t))
+abbrev pub placeFor : ℕ → ℕ
+placeFor p = placeNumber (placeOf p)
 
--- "rr", "n": the number behind the code and a space
-unfoldable pub numberIn : List ℕ → ℕ
-numberIn t = valueOf (argument t)
+-- in what follows the code: "ppp" behind a space, and the last number behind another
+abbrev pub placeBehind : Bool → List ℕ → ℕ
+placeBehind true xs = placeFor (valueOf (take 3 (drop 1 xs)))
+placeBehind false xs = 0
 
--- "v", "l": the number behind the parameter code and a space
-unfoldable pub secondIn : List ℕ → ℕ
-secondIn t = valueOf (drop 4 (argument t))
+abbrev pub lastBehind : Bool → ℕ → List ℕ → ℕ
+lastBehind true most xs = pick (eqb most 0) 0 (valueOf (drop 5 xs))
+lastBehind false most xs = pick (eqb most 0) 0 (valueOf (drop 1 xs))
+
+abbrev pub argumentsOf : Form → List ℕ → Arguments
+argumentsOf (numbers p least most) xs = aPlace (placeBehind p xs) (lastBehind p most xs)
+argumentsOf (words ws) xs = aWord (drop 1 xs)
 
 -- ---- replies
-abbrev pub OK : List ℕ
-OK = text "OK"
+pub data Reply : Type 0 where
+  -- "OK"
+  acknowledged : Reply
+  -- EQ: "six status characters"; RS: `"RS ", then each code and a space`
+  status codes : Reply
+  -- a label, and a field's number in so many digits
+  numbered : List ℕ → ℕ → Field → Reply
+  -- "RC rr vvvvvvvv, recipe and its factor now"
+  composition : Reply
+
+-- "PV ppp ", "XV ppp "
+abbrev pub parameterLabel : List ℕ → ℕ → List ℕ
+parameterLabel w i = w ++ (digits 3 (codeAt i) ++ (space ∷ []))
 
 -- the place of recipe r's factor
 abbrev pub factorPlace : ℕ → ℕ
 factorPlace r = 3 * (r - 1) + 1
 
--- words one behind the other, a space between each two
-abbrev pub spaced : List (List ℕ) → List ℕ
-spaced [] = []
-spaced (w ∷ []) = w
-spaced (w ∷ v ∷ ws) = w ++ (space ∷ spaced (v ∷ ws))
+abbrev pub printed : Reply → Record → List ℕ
+printed acknowledged r = text "OK"
+printed status r = statusCharacters r
+printed codes r = text "RS " ++ codesOn statusCodes r
+printed (numbered w n f) r = w ++ digits n (get f r)
+printed composition r = (text "RC " ++ digits 2 (get recipe r)) ++ (space ∷ digits 8 (get (value (factorPlace (get recipe r))) r))
 
--- ---- effects: one field's new value each
-pub record Change : Type 0 where
-  pub field : Field
-  pub to : ℕ
+-- ---- effects: one field's new number each
+pub data Change : Type 0 where
+  -- the field gets this number
+  becomes : Field → ℕ → Change
+  -- "batch number +1 (9999 goes to 1)"
+  nextBatch : Change
 
 infix 70 _≔_
 abbrev pub _≔_ : Field → ℕ → Change
-f ≔ n = record { field = f; to = n }
+f ≔ n = becomes f n
+
+abbrev pub afterChange : Change → Record → Record
+afterChange (becomes f n) r = put f n r
+afterChange nextBatch r = put number (nextNumber (get number r)) r
 
 unfoldable pub applied : List Change → Record → Record
 applied [] r = r
-applied (c ∷ cs) r = put (c .field) (c .to) (applied cs r)
+applied (c ∷ cs) r = afterChange c (applied cs r)
 
 -- "that flag": BD is batch reset, PC is changed
 abbrev pub flagNamed : List ℕ → Field
-flagNamed t = pick (equal (argument t) (text "BD")) reset changed
+flagNamed w = pick (equal w (text "BD")) reset changed
 
 -- ---- the table
 pub record Command : Type 0 where
   pub code : ℕ
   pub form : Form
-  pub reply : List ℕ → Record → List ℕ
-  pub effect : List ℕ → Record → List Change
+  pub reply : Arguments → Reply
+  pub effect : Arguments → List Change
 
-abbrev pub reads : ℕ → Form → (List ℕ → Record → List ℕ) → Command
-reads c f s = record { code = c; form = f; reply = s; effect = λ t r. [] }
+abbrev pub reads : ℕ → Form → (Arguments → Reply) → Command
+reads c f s = record { code = c; form = f; reply = s; effect = λ a. [] }
 
-abbrev pub writes : ℕ → Form → (List ℕ → Record → List Change) → Command
-writes c f e = record { code = c; form = f; reply = λ t r. OK; effect = e }
+abbrev pub writes : ℕ → Form → (Arguments → List Change) → Command
+writes c f e = record { code = c; form = f; reply = λ a. acknowledged; effect = e }
 
 -- | request | reply if accepted | effect |
 abbrev pub commands : List Command
 commands =
-    reads EQ nothing (λ t r. statusCharacters r)
-    ∷ reads RS nothing (λ t r. text "RS" ++ (space ∷ codesOn statusCodes r))
-    ∷ reads TN nothing (λ t r. spaced (text "TN" ∷ digits 4 (get number r) ∷ []))
-    ∷ reads RR nothing (λ t r. spaced (text "RR" ∷ digits 2 (get recipe r) ∷ []))
-    ∷ reads RC nothing (λ t r. spaced (text "RC" ∷ digits 2 (get recipe r) ∷ digits 8 (get (value (factorPlace (get recipe r))) r) ∷ []))
-    ∷ reads RT (words (text "R" ∷ [])) (λ t r. spaced (text "RT" ∷ text "R" ∷ digits 8 (get raw r) ∷ []))
-    ∷ reads PV parameter (λ t r. spaced (text "PV" ∷ digits 3 (parameterIn t) ∷ digits 8 (get (value (placeIn t)) r) ∷ []))
-    ∷ reads XV parameter (λ t r. spaced (text "XV" ∷ digits 3 (parameterIn t) ∷ digits 1 (get (level (placeIn t)) r) ∷ []))
-    ∷ writes PC (parameterAnd 1 8) (λ t r. (value (placeIn t) ≔ secondIn t) ∷ (changed ≔ on) ∷ [])
-    ∷ writes XC (parameterAnd 1 1) (λ t r. (level (placeIn t) ≔ secondIn t) ∷ [])
-    ∷ writes NR (aNumber 2 2) (λ t r. (recipe ≔ numberIn t) ∷ [])
-    ∷ writes SB (aNumber 1 6) (λ t r. (phase ≔ set) ∷ (preset ≔ numberIn t) ∷ (raw ≔ 0) ∷ (reset ≔ on) ∷ (number ≔ nextNumber (get number r)) ∷ [])
-    ∷ writes SA nothing (λ t r. (phase ≔ running) ∷ [])
-    ∷ writes SP nothing (λ t r. (phase ≔ stopped) ∷ [])
-    ∷ writes ET nothing (λ t r. (phase ≔ idle) ∷ [])
-    ∷ writes RE (words (text "BD" ∷ text "PC" ∷ [])) (λ t r. (flagNamed t ≔ off) ∷ [])
+    reads EQ nothing (λ a. status)
+    ∷ reads RS nothing (λ a. codes)
+    ∷ reads TN nothing (λ a. numbered (text "TN ") 4 number)
+    ∷ reads RR nothing (λ a. numbered (text "RR ") 2 recipe)
+    ∷ reads RC nothing (λ a. composition)
+    ∷ reads RT (words (text "R" ∷ [])) (λ a. numbered (text "RT R ") 8 raw)
+    ∷ reads PV parameter (λ a. numbered (parameterLabel (text "PV ") (a .place)) 8 (value (a .place)))
+    ∷ reads XV parameter (λ a. numbered (parameterLabel (text "XV ") (a .place)) 1 (level (a .place)))
+    ∷ writes PC (parameterAnd 1 8) (λ a. (value (a .place) ≔ a .number) ∷ (changed ≔ on) ∷ [])
+    ∷ writes XC (parameterAnd 1 1) (λ a. (level (a .place) ≔ a .number) ∷ [])
+    ∷ writes NR (aNumber 2 2) (λ a. (recipe ≔ a .number) ∷ [])
+    ∷ writes SB (aNumber 1 6) (λ a. (phase ≔ set) ∷ (preset ≔ a .number) ∷ (raw ≔ 0) ∷ (reset ≔ on) ∷ nextBatch ∷ [])
+    ∷ writes SA nothing (λ a. (phase ≔ running) ∷ [])
+    ∷ writes SP nothing (λ a. (phase ≔ stopped) ∷ [])
+    ∷ writes ET nothing (λ a. (phase ≔ idle) ∷ [])
+    ∷ writes RE (words (text "BD" ∷ text "PC" ∷ [])) (λ a. (flagNamed (a .word) ≔ off) ∷ [])
     ∷ []
 
 -- the row of a code; the last entry stands for a code that is not in the table, which no request that is accepted has
 unfoldable pub rowOf : ℕ → List Command → Command
-rowOf c [] = reads c nothing (λ t r. [])
+rowOf c [] = reads c nothing (λ a. acknowledged)
 rowOf c (k ∷ ks) = pick (eqb c (k .code)) k (rowOf c ks)

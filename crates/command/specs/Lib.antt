@@ -1,4 +1,3 @@
-pub mod Word
 pub mod Status
 pub mod Commands
 pub mod Refusals

@@ -1,67 +1,85 @@
--- Document 01, "Commands": the six status characters of EQ and the status codes of RS.
+-- Document 01, "Commands": the six status characters of EQ and the status codes of RS. Each sign goes by a test of one field.
 use Prim.Native.Nat.{ℕ, _+_, _*_}
 use Prim.Native.String.{String}
 use mathlib.Core.Bool.{Bool}
-use mathlib.Core.List.{List, [], _∷_, _++_}
+use mathlib.Core.List.{List, [], _∷_, _++_, map}
 use lib.Dec.{eqb}
 use Rattle.base.specs.Text.{text}
 use Rattle.state.specs.declared.Record.{Record}
 use Rattle.base.specs.Test.{pick, member}
 use Rattle.state.specs.Field.{Field, phase, keypad, flow, changed, reset, powerfail, get, on, flagNumber}
 use Rattle.state.specs.Event.{set, running, stopped, done}
-use Rattle.command.specs.Word.{space}
+use Rattle.text.specs.Word.{space}
 
--- the record's phase is one of these
-abbrev pub inPhases : List ℕ → Record → Bool
-inPhases ps r = member (get phase r) ps
+-- ---- a test of one field
+pub record Test : Type 0 where
+  pub field : Field
+  pub holds : ℕ → Bool
 
-abbrev pub isOn : Field → Record → Bool
-isOn f r = eqb (get f r) on
+abbrev pub isOn : Field → Test
+isOn f = record { field = f; holds = λ n. eqb n on }
 
--- the weight if the test holds
-abbrev pub weight : ℕ → Bool → ℕ
-weight w b = w * flagNumber b
+abbrev pub inPhases : List ℕ → Test
+inPhases ps = record { field = phase; holds = λ n. member n ps }
+
+abbrev pub passes : Test → Record → Bool
+passes t r = t .holds (get (t .field) r)
+
+-- ---- EQ: the bits of a character
+pub record Bit : Type 0 where
+  pub weight : ℕ
+  pub if : Test
+
+abbrev pub bit : ℕ → Test → Bit
+bit w t = record { weight = w; if = t }
 
 -- "A1 = 8 keypad, 4 Running, 2 flow, 1 Set/Running/Stopped."
-abbrev pub first : Record → ℕ
-first r =
-    weight 8 (isOn keypad r) + weight 4 (inPhases (running ∷ []) r) + weight 2 (isOn flow r)
-    + weight 1 (inPhases (set ∷ running ∷ stopped ∷ []) r)
+abbrev pub first : List Bit
+first = bit 8 (isOn keypad) ∷ bit 4 (inPhases (running ∷ [])) ∷ bit 2 (isOn flow) ∷ bit 1 (inPhases (set ∷ running ∷ stopped ∷ [])) ∷ []
 
 -- "A2 = 8 Running/Stopped, 4 Done, 2 batch reset."
-abbrev pub second : Record → ℕ
-second r = weight 8 (inPhases (running ∷ stopped ∷ []) r) + weight 4 (inPhases (done ∷ []) r) + weight 2 (isOn reset r)
+abbrev pub second : List Bit
+second = bit 8 (inPhases (running ∷ stopped ∷ [])) ∷ bit 4 (inPhases (done ∷ [])) ∷ bit 2 (isOn reset) ∷ []
 
 -- "A4 = 8 changed, 1 power fail."
-abbrev pub fourth : Record → ℕ
-fourth r = weight 8 (isOn changed r) + weight 1 (isOn powerfail r)
+abbrev pub fourth : List Bit
+fourth = bit 8 (isOn changed) ∷ bit 1 (isOn powerfail) ∷ []
 
--- "A3 = 0. .. A5 and A6 = 0."; "value n from 0 to 15 is the byte 0x30+n"
+-- "A3 = 0. .. A5 and A6 = 0."
+abbrev pub characters : List (List Bit)
+characters = first ∷ second ∷ [] ∷ fourth ∷ [] ∷ [] ∷ []
+
+-- the weights of the bits whose tests hold
+unfoldable pub weightIn : Record → List Bit → ℕ
+weightIn r [] = 0
+weightIn r (b ∷ bs) = b .weight * flagNumber (passes (b .if) r) + weightIn r bs
+
+-- "value n from 0 to 15 is the byte 0x30+n"
 unfoldable pub statusCharacters : Record → List ℕ
-statusCharacters r = (0x30 + first r) ∷ (0x30 + second r) ∷ 0x30 ∷ (0x30 + fourth r) ∷ 0x30 ∷ 0x30 ∷ []
+statusCharacters r = map (λ bs. 0x30 + weightIn r bs) characters
 
 -- ---- RS
-pub record Shown : Type 0 where
+pub record Code : Type 0 where
   pub letters : List ℕ
-  pub if : Record → Bool
+  pub if : Test
 
-abbrev pub shown : String → (Record → Bool) → Shown
-shown s p = record { letters = text s; if = p }
+abbrev pub code : String → Test → Code
+code s t = record { letters = text s; if = t }
 
 -- "RS codes, in 000's order: FL flow, BD, PC, PF, PW keypad, TD Done, TP Running/Stopped, RL Running."
-abbrev pub statusCodes : List Shown
+abbrev pub statusCodes : List Code
 statusCodes =
-    shown "FL" (isOn flow)
-    ∷ shown "BD" (isOn reset)
-    ∷ shown "PC" (isOn changed)
-    ∷ shown "PF" (isOn powerfail)
-    ∷ shown "PW" (isOn keypad)
-    ∷ shown "TD" (inPhases (done ∷ []))
-    ∷ shown "TP" (inPhases (running ∷ stopped ∷ []))
-    ∷ shown "RL" (inPhases (running ∷ []))
+    code "FL" (isOn flow)
+    ∷ code "BD" (isOn reset)
+    ∷ code "PC" (isOn changed)
+    ∷ code "PF" (isOn powerfail)
+    ∷ code "PW" (isOn keypad)
+    ∷ code "TD" (inPhases (done ∷ []))
+    ∷ code "TP" (inPhases (running ∷ stopped ∷ []))
+    ∷ code "RL" (inPhases (running ∷ []))
     ∷ []
 
 -- "each code and a space"
-unfoldable pub codesOn : List Shown → Record → List ℕ
+unfoldable pub codesOn : List Code → Record → List ℕ
 codesOn [] r = []
-codesOn (c ∷ cs) r = pick (c .if r) (c .letters ++ (space ∷ [])) [] ++ codesOn cs r
+codesOn (c ∷ cs) r = pick (passes (c .if) r) (c .letters ++ (space ∷ [])) [] ++ codesOn cs r

@@ -4,34 +4,30 @@ use base::is_between;
 use base::wide;
 use state::DONE;
 use state::IDLE;
+use state::LEVEL_RANGE;
 use state::PARAMETERS;
 use state::Place;
-use state::RECIPES;
+use state::RECIPE_RANGE;
 use state::RUNNING;
 use state::Record;
 use state::SET;
 use state::STOPPED;
 use state::place_of;
+use text::Digits;
+use text::is_word;
+use text::read_number;
 ghost use mathlib.Core.Path.{_≡_};
 ghost use mathlib.Core.Bool.{true, false};
-ghost use mathlib.Core.List.{[], _∷_};
 ghost use Prim.Native.Nat.{_≤_, _<_};
-ghost use lib.ListN.{length};
-ghost use Rattle.state.specs.Parameter.{placeOf};
 ghost use Rattle.state.specs.Field.{Field, get, put};
-ghost use Rattle.command.specs.Word.{allDigits, valueOf, equal};
-ghost use Rattle.command.specs.Commands.{nothing, placeNumber, applied};
-ghost use Rattle.command.specs.Answer.{accepted};
-ghost use Rattle.command.specs.Request.{numberFor, numbersOf, whole, volumeOf, flagOf, requestOf, refusalNumber, decisionAs, refusedUnless, listed, andThen, valueByItself, levelByItself, byItself, keypadGuard, levelGuard, phaseGuard, valueGuards, levelGuards, guards, guarded, verdictFor, valueVerdict, valueChanges, changes, valueServed, servedOf};
+ghost use Rattle.base.specs.Test.{pick, member};
+ghost use Rattle.command.specs.Commands.{RT, PC, XC, NR, SB, RE, nothing, aPlace, placeFor, applied};
+ghost use Rattle.command.specs.Refusals.{listed};
+ghost use Rattle.command.specs.Answer.{NO, accepted};
+ghost use Rattle.command.specs.Request.{refused, numbersOf, whole, askedFor, askedIn, askedWith, guardsOf, guarded, andThen, plainGuards, keypadGuards, levelGuards, phaseGuards, guardsAs, changesOf, servedOf, refusalNumber, decisionAs, requestAs, writingAs, answerAs};
 
-// A request with its arguments as numbers; a parameter is given by its code.
-pub enum Request {
-    // A code that is not in the table.
-    Unknown,
-    // Arguments that are not of the code's form.
-    Malformed,
-    // One of the five requests that are known and not served.
-    NotServed,
+// What a request asks to be shown; a parameter is given by its place.
+pub enum Reading {
     // EQ
     Status,
     // RS
@@ -45,15 +41,19 @@ pub enum Request {
     // RT R
     Raw,
     // PV
-    Value(u16),
+    Value(usize),
     // XV
-    Level(u16),
+    Level(usize),
+}
+
+// What a request asks to be changed.
+pub enum Writing {
     // PC
-    SetValue(u16, u32),
+    SetValue(usize, u32),
     // XC
-    SetLevel(u16, u32),
+    SetLevel(usize, u8),
     // NR
-    SelectRecipe(u32),
+    SelectRecipe(u8),
     // SB
     SetBatch(u32),
     // SA
@@ -66,6 +66,13 @@ pub enum Request {
     ClearReset,
     // RE PC
     ClearChanged,
+}
+
+// What a text asks for, its numbers in range; or what refuses it whatever the record.
+pub enum Request {
+    Refused(Refusal),
+    Read(Reading),
+    Write(Writing),
 }
 
 // Why a request is refused.
@@ -112,72 +119,76 @@ pub enum Decision {
     Refused(Refusal),
 }
 
-// The number that up to eight digits are, that of none being 0; or nothing for any other text.
-pub enum Digits {
-    Number(u32),
-    Nothing,
+// The phases in which a write is not refused.
+pub enum Phases {
+    Any,
+    IdleOrDone,
+    SetOrStopped,
+    Running,
+    SetStoppedOrDone,
 }
 
-// A parameter code and a number, 0 where the form has none.
+// What may refuse a write by the record.
+pub struct Guards {
+    // NO02: the keypad.
+    pub keypad: bool,
+    // NO07: the level at the place; or that a new level is above the access.
+    pub level: bool,
+    pub place: usize,
+    pub above: bool,
+    // NO05
+    pub phases: Phases,
+}
+
+// What is replied.
+pub enum Answer {
+    No(Refusal),
+    Shows(Reading),
+    Ok,
+}
+
+// A parameter's place and a number, 0 where the form has none.
 enum Numbers {
-    Read(u16, u32),
+    Read(usize, u32),
     Malformed,
 }
 
 const SPACE: u8 = 0x20;
 
+// The codes, two letters as one number.
+const EQ: u32 = 0x4551;
+
+const RS: u32 = 0x5253;
+
+const TN: u32 = 0x544e;
+
+const RR: u32 = 0x5252;
+
+const RC: u32 = 0x5243;
+
+const RT: u32 = 0x5254;
+
+const PV: u32 = 0x5056;
+
+const XV: u32 = 0x5856;
+
+const PC: u32 = 0x5043;
+
+const XC: u32 = 0x5843;
+
+const NR: u32 = 0x4e52;
+
+const SB: u32 = 0x5342;
+
+const SA: u32 = 0x5341;
+
+const SP: u32 = 0x5350;
+
+const ET: u32 = 0x4554;
+
+const RE: u32 = 0x5245;
+
 // ---- reading a text
-
-// Every byte is a digit.
-fn all_digits(s: &[u8]) -> bool
-    ensures { λ b. ⌜ b ≡ allDigits (now (s .entry)) ⌝ }
-{
-    base::all_between(b'0', b'9', s)
-}
-
-// The number that at most eight digits are.
-fn value(s: &[u8]) -> u32
-    requires { ⌜ (length (now s) ≤ 8) × (allDigits (now s) ≡ true) ⌝ }
-    ensures { λ n. ⌜ n ≡ valueOf (now (s .entry)) ⌝ }
-{
-    let mut n: u32 = 0;
-    let mut i = 0;
-    while i < s.len() {
-        n = n * 10 + (wide(s[i]) - 0x30);
-        i += 1;
-    }
-    n
-}
-
-// Up to eight digits as a number; no digits are 0.
-pub fn number(s: &[u8]) -> Digits
-    ensures { λ d. ⌜ d ≡ numberFor (now (s .entry)) ⌝ }
-{
-    if 8 < s.len() {
-        return Digits::Nothing;
-    }
-    if !all_digits(s) {
-        return Digits::Nothing;
-    }
-    Digits::Number(value(s))
-}
-
-// The bytes are the word.
-pub fn is_word(s: &[u8], word: &[u8]) -> bool
-    ensures { λ b. ⌜ b ≡ equal (now (s .entry)) (now (word .entry)) ⌝ }
-{
-    if s.len() != word.len() {
-        return false;
-    }
-    let mut i = 0;
-    while i < s.len() {
-        if s[i] != word[i] {
-            return false;
-        }
-        i += 1;
-    }
-    true
-}
 
 // A number of least to most digits behind a space, and nothing else; with a most of 0 nothing at all.
 fn last_number(s: &[u8], least: usize, most: usize) -> Numbers
@@ -203,7 +214,7 @@ fn last_number(s: &[u8], least: usize, most: usize) -> Numbers
     if most < digits.len() {
         return Numbers::Malformed;
     }
-    let Digits::Number(n) = number(digits) else {
+    let Digits::Number(n) = read_number(digits) else {
         return Numbers::Malformed;
     };
     Numbers::Read(0, n)
@@ -220,14 +231,24 @@ fn parameter_and(s: &[u8], least: usize, most: usize) -> Numbers
     if s[0] != SPACE {
         return Numbers::Malformed;
     }
-    let Digits::Number(code) = number(&s[1..4]) else {
+    let Digits::Number(code) = read_number(&s[1..4]) else {
         return Numbers::Malformed;
     };
-    let parameter = code as u16;
+    let place = place(code as u16);
     let Numbers::Read(_, last) = last_number(&s[4..], least, most) else {
         return Numbers::Malformed;
     };
-    Numbers::Read(parameter, last)
+    Numbers::Read(place, last)
+}
+
+// The place of a parameter code; beyond the last if it has none.
+fn place(code: u16) -> usize
+    ensures { λ i. ⌜ i ≡ placeFor code ⌝ }
+{
+    let Place::At(i) = place_of(code) else {
+        return PARAMETERS;
+    };
+    i
 }
 
 // The request if nothing follows the code.
@@ -237,116 +258,205 @@ fn alone(s: &[u8], request: Request) -> Request
     if s.len() == 0 {
         return request;
     }
-    Request::Malformed
+    Request::Refused(Refusal::Malformed)
 }
 
 // RT: the raw volume is served, four others are not.
 fn volume(s: &[u8]) -> Request
-    ensures { λ r. ⌜ r ≡ volumeOf (now (s .entry)) ⌝ }
+    ensures { λ r. ⌜ requestAs r ≡ askedFor RT (now (s .entry)) ⌝ }
 {
     if is_word(s, b" R") {
-        return Request::Raw;
+        return Request::Read(Reading::Raw);
     }
     if is_word(s, b" G") {
-        return Request::NotServed;
+        return Request::Refused(Refusal::NotServed);
     }
     if is_word(s, b" N") {
-        return Request::NotServed;
+        return Request::Refused(Refusal::NotServed);
     }
     if is_word(s, b" P") {
-        return Request::NotServed;
+        return Request::Refused(Refusal::NotServed);
     }
     if is_word(s, b" M") {
-        return Request::NotServed;
+        return Request::Refused(Refusal::NotServed);
     }
-    Request::Malformed
+    Request::Refused(Refusal::Malformed)
 }
 
 // RE: two flags are cleared by the host, the power fail flag is not.
-fn flag(s: &[u8]) -> Request
-    ensures { λ r. ⌜ r ≡ flagOf (now (s .entry)) ⌝ }
+fn flag_to_clear(s: &[u8]) -> Request
+    ensures { λ r. ⌜ requestAs r ≡ askedFor RE (now (s .entry)) ⌝ }
 {
     if is_word(s, b" BD") {
-        return Request::ClearReset;
+        return Request::Write(Writing::ClearReset);
     }
     if is_word(s, b" PC") {
-        return Request::ClearChanged;
+        return Request::Write(Writing::ClearChanged);
     }
     if is_word(s, b" PF") {
-        return Request::NotServed;
+        return Request::Refused(Refusal::NotServed);
     }
-    Request::Malformed
+    Request::Refused(Refusal::Malformed)
 }
 
-// The request that a text is.
+// PV, XV: a place beyond the last is not in the list.
+fn at_place(place: usize, request: Request) -> Request
+    ensures { λ r. ⌜ requestAs r ≡ pick (listed place) (requestAs request) (refused 4) ⌝ }
+{
+    if place < PARAMETERS {
+        return request;
+    }
+    Request::Refused(Refusal::UnknownParameter)
+}
+
+// PC by place and value.
+pub fn ask_value(place: usize, value: u32) -> Request
+    ensures { λ r. ⌜ requestAs r ≡ askedWith PC (aPlace place value) ⌝ }
+{
+    if PARAMETERS <= place {
+        return Request::Refused(Refusal::UnknownParameter);
+    }
+    let range = state::range_at(place);
+    if is_between(range.low, range.high, value) {
+        return Request::Write(Writing::SetValue(place, value));
+    }
+    Request::Refused(Refusal::Range)
+}
+
+// XC by place and level.
+fn ask_level(place: usize, level: u32) -> Request
+    ensures { λ r. ⌜ requestAs r ≡ askedWith XC (aPlace place level) ⌝ }
+{
+    if PARAMETERS <= place {
+        return Request::Refused(Refusal::UnknownParameter);
+    }
+    if level <= LEVEL_RANGE.high {
+        return Request::Write(Writing::SetLevel(place, level as u8));
+    }
+    Request::Refused(Refusal::Range)
+}
+
+// NR
+fn ask_recipe(recipe: u32) -> Request
+    ensures { λ r. ⌜ requestAs r ≡ askedWith NR (aPlace 0 recipe) ⌝ }
+{
+    if is_between(RECIPE_RANGE.low, RECIPE_RANGE.high, recipe) {
+        return Request::Write(Writing::SelectRecipe(recipe as u8));
+    }
+    Request::Refused(Refusal::UnknownRecipe)
+}
+
+// SB
+fn ask_batch(preset: u32) -> Request
+    ensures { λ r. ⌜ requestAs r ≡ askedWith SB (aPlace 0 preset) ⌝ }
+{
+    if preset == 0 {
+        return Request::Refused(Refusal::Range);
+    }
+    Request::Write(Writing::SetBatch(preset))
+}
+
+// What a text asks for.
 pub fn parse(text: &[u8]) -> Request
-    ensures { λ r. ⌜ r ≡ requestOf (now (text .entry)) ⌝ }
+    ensures { λ r. ⌜ requestAs r ≡ askedIn (now (text .entry)) ⌝ }
 {
     if text.len() < 4 {
-        return Request::Unknown;
+        return Request::Refused(Refusal::UnknownCode);
     }
     let code = wide(text[2]) * 256 + wide(text[3]);
     let rest = &text[4..];
     match code {
-        0x4551 => alone(rest, Request::Status),
-        0x5253 => alone(rest, Request::Codes),
-        0x544e => alone(rest, Request::Number),
-        0x5252 => alone(rest, Request::Recipe),
-        0x5243 => alone(rest, Request::Composition),
-        0x5254 => volume(rest),
-        0x5056 => {
-            let Numbers::Read(parameter, _) = parameter_and(rest, 0, 0) else {
-                return Request::Malformed;
+        EQ => alone(rest, Request::Read(Reading::Status)),
+        RS => alone(rest, Request::Read(Reading::Codes)),
+        TN => alone(rest, Request::Read(Reading::Number)),
+        RR => alone(rest, Request::Read(Reading::Recipe)),
+        RC => alone(rest, Request::Read(Reading::Composition)),
+        RT => volume(rest),
+        PV => {
+            let Numbers::Read(place, _) = parameter_and(rest, 0, 0) else {
+                return Request::Refused(Refusal::Malformed);
             };
-            Request::Value(parameter)
+            at_place(place, Request::Read(Reading::Value(place)))
         }
-        0x5856 => {
-            let Numbers::Read(parameter, _) = parameter_and(rest, 0, 0) else {
-                return Request::Malformed;
+        XV => {
+            let Numbers::Read(place, _) = parameter_and(rest, 0, 0) else {
+                return Request::Refused(Refusal::Malformed);
             };
-            Request::Level(parameter)
+            at_place(place, Request::Read(Reading::Level(place)))
         }
-        0x5043 => {
-            let Numbers::Read(parameter, value) = parameter_and(rest, 1, 8) else {
-                return Request::Malformed;
+        PC => {
+            let Numbers::Read(place, value) = parameter_and(rest, 1, 8) else {
+                return Request::Refused(Refusal::Malformed);
             };
-            Request::SetValue(parameter, value)
+            ask_value(place, value)
         }
-        0x5843 => {
-            let Numbers::Read(parameter, level) = parameter_and(rest, 1, 1) else {
-                return Request::Malformed;
+        XC => {
+            let Numbers::Read(place, level) = parameter_and(rest, 1, 1) else {
+                return Request::Refused(Refusal::Malformed);
             };
-            Request::SetLevel(parameter, level)
+            ask_level(place, level)
         }
-        0x4e52 => {
+        NR => {
             let Numbers::Read(_, recipe) = last_number(rest, 2, 2) else {
-                return Request::Malformed;
+                return Request::Refused(Refusal::Malformed);
             };
-            Request::SelectRecipe(recipe)
+            ask_recipe(recipe)
         }
-        0x5342 => {
+        SB => {
             let Numbers::Read(_, preset) = last_number(rest, 1, 6) else {
-                return Request::Malformed;
+                return Request::Refused(Refusal::Malformed);
             };
-            Request::SetBatch(preset)
+            ask_batch(preset)
         }
-        0x5341 => alone(rest, Request::Start),
-        0x5350 => alone(rest, Request::Stop),
-        0x4554 => alone(rest, Request::End),
-        0x5245 => flag(rest),
-        _ => Request::Unknown,
+        SA => alone(rest, Request::Write(Writing::Start)),
+        SP => alone(rest, Request::Write(Writing::Stop)),
+        ET => alone(rest, Request::Write(Writing::End)),
+        RE => flag_to_clear(rest),
+        _ => Request::Refused(Refusal::UnknownCode),
     }
 }
 
-// ---- deciding a request
+// ---- what refuses a write by the record
 
-fn refused_unless(passes: bool, refusal: Refusal) -> Decision
-    ensures { λ d. ⌜ decisionAs d ≡ refusedUnless passes (refusalNumber refusal) ⌝ }
+fn plain(keypad: bool, phases: Phases) -> Guards
+    ensures { λ g. ⌜ g ≡ plainGuards keypad phases ⌝ }
 {
-    if passes {
-        return Decision::Accepted;
+    Guards {
+        keypad: keypad,
+        level: false,
+        place: 0,
+        above: false,
+        phases: phases,
     }
-    Decision::Refused(refusal)
+}
+
+// The guards of a write on a link of this access.
+pub fn guards_of(access: u8, request: Writing) -> Guards
+    ensures { λ g. ⌜ guardsAs access g ≡ guardsOf access (writingAs request) ⌝ }
+{
+    match request {
+        Writing::SetValue(place, _) => Guards {
+            keypad: true,
+            level: true,
+            place: place,
+            above: false,
+            phases: Phases::IdleOrDone,
+        },
+        Writing::SetLevel(place, level) => Guards {
+            keypad: true,
+            level: true,
+            place: place,
+            above: access < level,
+            phases: Phases::Any,
+        },
+        Writing::SelectRecipe(_) => plain(true, Phases::IdleOrDone),
+        Writing::SetBatch(_) => plain(true, Phases::IdleOrDone),
+        Writing::Start => plain(true, Phases::SetOrStopped),
+        Writing::Stop => plain(false, Phases::Running),
+        Writing::End => plain(true, Phases::SetStoppedOrDone),
+        Writing::ClearReset => plain(true, Phases::Any),
+        Writing::ClearChanged => plain(true, Phases::Any),
+    }
 }
 
 // The first of two decisions that refuses, or that both accept.
@@ -359,178 +469,69 @@ fn and_then(first: Decision, second: Decision) -> Decision
     }
 }
 
-// ---- what refuses it whatever the record
-
-// A place beyond the last is not in the list.
-fn by_place(place: usize) -> Decision
-    ensures { λ d. ⌜ decisionAs d ≡ refusedUnless (listed place) 4 ⌝ }
+fn by_keypad(r: Record, tested: bool) -> Decision
+    ensures { λ d. ⌜ decisionAs d ≡ guarded (keypadGuards tested) r ⌝ }
 {
-    refused_unless(place < PARAMETERS, Refusal::UnknownParameter)
-}
-
-// PC by place and value.
-fn value_by_itself(place: usize, value: u32) -> Decision
-    ensures { λ d. ⌜ decisionAs d ≡ valueByItself place value ⌝ }
-{
-    let range = state::range_at(place);
-    let inside = is_between(range.low, range.high, value);
-    and_then(by_place(place), refused_unless(inside, Refusal::Range))
-}
-
-// XC by place and level.
-fn level_by_itself(place: usize, level: u32) -> Decision
-    ensures { λ d. ⌜ decisionAs d ≡ levelByItself place level ⌝ }
-{
-    and_then(by_place(place), refused_unless(level <= 3, Refusal::Range))
-}
-
-// What refuses a request whatever the record: NO00, NO01, NO08, NO04, NO30, NO06.
-pub fn by_itself(request: Request) -> Decision
-    ensures { λ d. ⌜ decisionAs d ≡ byItself request ⌝ }
-{
-    match request {
-        Request::Unknown => Decision::Refused(Refusal::UnknownCode),
-        Request::Malformed => Decision::Refused(Refusal::Malformed),
-        Request::NotServed => Decision::Refused(Refusal::NotServed),
-        Request::Status => Decision::Accepted,
-        Request::Codes => Decision::Accepted,
-        Request::Number => Decision::Accepted,
-        Request::Recipe => Decision::Accepted,
-        Request::Composition => Decision::Accepted,
-        Request::Raw => Decision::Accepted,
-        Request::Value(code) => by_place(place(code)),
-        Request::Level(code) => by_place(place(code)),
-        Request::SetValue(code, value) => value_by_itself(place(code), value),
-        Request::SetLevel(code, level) => level_by_itself(place(code), level),
-        Request::SelectRecipe(recipe) => {
-            let known = is_between(1, RECIPES as u32, recipe);
-            refused_unless(known, Refusal::UnknownRecipe)
-        }
-        Request::SetBatch(preset) => refused_unless(1 <= preset, Refusal::Range),
-        Request::Start => Decision::Accepted,
-        Request::Stop => Decision::Accepted,
-        Request::End => Decision::Accepted,
-        Request::ClearReset => Decision::Accepted,
-        Request::ClearChanged => Decision::Accepted,
+    if !tested {
+        return Decision::Accepted;
     }
-}
-
-// ---- what refuses it by the record
-
-fn by_keypad(r: Record) -> Decision
-    ensures { λ d. ⌜ decisionAs d ≡ guarded (keypadGuard ∷ []) r ⌝ }
-{
-    refused_unless(!r.keypad, Refusal::Keypad)
-}
-
-fn by_phase(r: Record, phases: &[u8]) -> Decision
-    ensures { λ d. ⌜ decisionAs d ≡ guarded (phaseGuard (now (phases .entry)) ∷ []) r ⌝ }
-{
-    let phase = r.phase;
-    let among = is_among(state::phase_number(phase), phases);
-    refused_unless(among, Refusal::Phase)
-}
-
-fn by_keypad_and_phase(r: Record, phases: &[u8]) -> Decision
-    ensures { λ d. ⌜ decisionAs d ≡ guarded (keypadGuard ∷ phaseGuard (now (phases .entry)) ∷ []) r ⌝ }
-{
-    and_then(by_keypad(r), by_phase(r, phases))
-}
-
-// The level at a place; 0 beyond the last.
-fn level_at(r: Record, place: usize) -> u8
-    ensures { λ n. ⌜ n ≡ get (Field.level place) r ⌝ }
-{
-    if place < PARAMETERS {
-        return r.levels[place];
+    if r.keypad {
+        return Decision::Refused(Refusal::Keypad);
     }
-    0
+    Decision::Accepted
 }
 
-// Refused where the level at the place is above the access, or where `above` says that a new level is.
-fn by_level(r: Record, place: usize, above: bool) -> Decision
-    ensures { λ d. ⌜ decisionAs d ≡ guarded (levelGuard (get Field.access r) above place ∷ []) r ⌝ }
+fn by_level(r: Record, guards: Guards) -> Decision
+    ensures { λ d. ⌜ decisionAs d ≡ guarded (levelGuards (get Field.access r) guards) r ⌝ }
 {
-    if r.access < level_at(r, place) {
+    if !guards.level {
+        return Decision::Accepted;
+    }
+    if guards.above {
         return Decision::Refused(Refusal::Level);
     }
-    refused_unless(!above, Refusal::Level)
+    if r.access < r.level_at(guards.place) {
+        return Decision::Refused(Refusal::Level);
+    }
+    Decision::Accepted
 }
 
-// PC by place.
-fn value_by_record(r: Record, place: usize) -> Decision
-    ensures { λ d. ⌜ decisionAs d ≡ guarded (valueGuards (get Field.access r) place) r ⌝ }
+fn in_phases(phase: u8, phases: &[u8]) -> Decision
+    ensures { λ d. ⌜ decisionAs d ≡ pick (member phase (now (phases .entry))) accepted (NO 5) ⌝ }
 {
-    let by_level_and_phase = and_then(by_level(r, place, false), by_phase(r, &[IDLE, DONE]));
-    and_then(by_keypad(r), by_level_and_phase)
+    if is_among(phase, phases) {
+        return Decision::Accepted;
+    }
+    Decision::Refused(Refusal::Phase)
 }
 
-// XC by place and level.
-fn level_by_record(r: Record, place: usize, level: u32) -> Decision
-    ensures { λ d. ⌜ decisionAs d ≡ guarded (levelGuards (get Field.access r) place level) r ⌝ }
+fn by_phase(r: Record, phases: Phases) -> Decision
+    ensures { λ d. ⌜ decisionAs d ≡ guarded (phaseGuards phases) r ⌝ }
 {
-    let above = (r.access as u32) < level;
-    and_then(by_keypad(r), by_level(r, place, above))
-}
-
-// What refuses a request by the record: NO02, NO07, NO05.
-fn by_record(r: Record, request: Request) -> Decision
-    ensures { λ d. ⌜ decisionAs d ≡ guarded (guards (get Field.access r) request) r ⌝ }
-{
-    match request {
-        Request::Unknown => Decision::Accepted,
-        Request::Malformed => Decision::Accepted,
-        Request::NotServed => Decision::Accepted,
-        Request::Status => Decision::Accepted,
-        Request::Codes => Decision::Accepted,
-        Request::Number => Decision::Accepted,
-        Request::Recipe => Decision::Accepted,
-        Request::Composition => Decision::Accepted,
-        Request::Raw => Decision::Accepted,
-        Request::Value(_) => Decision::Accepted,
-        Request::Level(_) => Decision::Accepted,
-        Request::SetValue(code, _) => value_by_record(r, place(code)),
-        Request::SetLevel(code, level) => level_by_record(r, place(code), level),
-        Request::SelectRecipe(_) => by_keypad_and_phase(r, &[IDLE, DONE]),
-        Request::SetBatch(_) => by_keypad_and_phase(r, &[IDLE, DONE]),
-        Request::Start => by_keypad_and_phase(r, &[SET, STOPPED]),
-        Request::Stop => by_phase(r, &[RUNNING]),
-        Request::End => by_keypad_and_phase(r, &[SET, STOPPED, DONE]),
-        Request::ClearReset => by_keypad(r),
-        Request::ClearChanged => by_keypad(r),
+    let phase = r.phase;
+    let held = state::phase_number(phase);
+    match phases {
+        Phases::Any => Decision::Accepted,
+        Phases::IdleOrDone => in_phases(held, &[IDLE, DONE]),
+        Phases::SetOrStopped => in_phases(held, &[SET, STOPPED]),
+        Phases::Running => in_phases(held, &[RUNNING]),
+        Phases::SetStoppedOrDone => in_phases(held, &[SET, STOPPED, DONE]),
     }
 }
 
-// ---- both, the record last
-
-// PC by place and value.
-fn decide_value(r: Record, place: usize, value: u32) -> Decision
-    ensures { λ d. ⌜ decisionAs d ≡ valueVerdict place value r ⌝ }
+// NO02, NO07, NO05.
+fn by_record(r: Record, guards: Guards) -> Decision
+    ensures { λ d. ⌜ decisionAs d ≡ guarded (guardsAs (get Field.access r) guards) r ⌝ }
 {
-    and_then(value_by_itself(place, value), value_by_record(r, place))
+    let phases = guards.phases;
+    let by_level_and_phase = and_then(by_level(r, guards), by_phase(r, phases));
+    and_then(by_keypad(r, guards.keypad), by_level_and_phase)
 }
 
-// What refuses a request, or that it is accepted.
-fn decide(r: Record, request: Request) -> Decision
-    ensures { λ d. ⌜ decisionAs d ≡ verdictFor request r ⌝ }
-{
-    and_then(by_itself(request), by_record(r, request))
-}
-
-// The place of a parameter code; beyond the last if it has none.
-pub fn place(code: u16) -> usize
-    ensures { λ i. ⌜ i ≡ placeNumber (placeOf code) ⌝ }
-{
-    let Place::At(i) = place_of(code) else {
-        return PARAMETERS;
-    };
-    i
-}
-
-// ---- what an accepted request changes
+// ---- what an accepted write changes
 
 fn with_value(mut r: Record, place: usize, value: u32) -> Record
-    ensures { λ s. ⌜ s ≡ applied (valueChanges place value) r ⌝ }
+    ensures { λ s. ⌜ s ≡ applied (changesOf (writingAs (Writing.SetValue place value))) r ⌝ }
 {
     r.changed = true;
     if place < PARAMETERS {
@@ -540,81 +541,60 @@ fn with_value(mut r: Record, place: usize, value: u32) -> Record
     r
 }
 
-fn with_level(mut r: Record, place: usize, level: u32) -> Record
-    requires { ⌜ level ≤ 3 ⌝ }
+fn with_level(mut r: Record, place: usize, level: u8) -> Record
     ensures { λ s. ⌜ s ≡ put (Field.level place) level r ⌝ }
 {
     if place < PARAMETERS {
-        r.levels[place] = level as u8;
+        r.levels[place] = level;
         return r;
     }
     r
 }
 
-fn with_recipe(mut r: Record, recipe: u32) -> Record
-    requires { ⌜ recipe ≤ 99 ⌝ }
-    ensures { λ s. ⌜ s ≡ put Field.recipe recipe r ⌝ }
-{
-    r.recipe = recipe as u8;
-    r
-}
-
-// The record after a request that was accepted.
-fn apply(mut r: Record, request: Request) -> Record
-    requires { ⌜ verdictFor request r ≡ accepted ⌝ }
-    ensures { λ s. ⌜ s ≡ applied (changes request r) r ⌝ }
+fn apply(mut r: Record, request: Writing) -> Record
+    ensures { λ s. ⌜ s ≡ applied (changesOf (writingAs request)) r ⌝ }
 {
     match request {
-        Request::Unknown => r,
-        Request::Malformed => r,
-        Request::NotServed => r,
-        Request::Status => r,
-        Request::Codes => r,
-        Request::Number => r,
-        Request::Recipe => r,
-        Request::Composition => r,
-        Request::Raw => r,
-        Request::Value(_) => r,
-        Request::Level(_) => r,
-        Request::SetValue(code, value) => with_value(r, place(code), value),
-        Request::SetLevel(code, level) => with_level(r, place(code), level),
-        Request::SelectRecipe(recipe) => with_recipe(r, recipe),
-        Request::SetBatch(preset) => r.set_batch(preset),
-        Request::Start => r.start(),
-        Request::Stop => r.stop(),
-        Request::End => r.end(),
-        Request::ClearReset => {
+        Writing::SetValue(place, value) => with_value(r, place, value),
+        Writing::SetLevel(place, level) => with_level(r, place, level),
+        Writing::SelectRecipe(recipe) => {
+            r.recipe = recipe;
+            r
+        }
+        Writing::SetBatch(preset) => r.set_batch(preset),
+        Writing::Start => r.start(),
+        Writing::Stop => r.stop(),
+        Writing::End => r.end(),
+        Writing::ClearReset => {
             r.reset = false;
             r
         }
-        Request::ClearChanged => {
+        Writing::ClearChanged => {
             r.changed = false;
             r
         }
     }
 }
 
-// ---- a request served: the decision, and the record afterwards
+// ---- a request served: the answer, and the record afterwards
 pub struct Served {
-    pub decision: Decision,
+    pub answer: Answer,
     pub after: Record,
 }
 
-// PC by place and value. A refusal hands the record back as it was.
-pub fn set_value(r: Record, place: usize, value: u32) -> Served
-    ensures { λ s. ⌜ (decisionAs (s .decision), s .after) ≡ valueServed place value r ⌝ }
+fn serve_write(r: Record, request: Writing) -> Served
+    ensures { λ s. ⌜ (answerAs (s .answer), s .after) ≡ servedOf (writingAs request) r ⌝ }
 {
-    let decision = decide_value(r, place, value);
-    match decision {
+    match by_record(r, guards_of(r.access, request)) {
         Decision::Accepted => {
-            let after = with_value(r, place, value);
+            let after = apply(r, request);
             Served {
-                decision: Decision::Accepted,
+                answer: Answer::Ok,
                 after: after,
             }
         }
         Decision::Refused(refusal) => Served {
-            decision: Decision::Refused(refusal),
+            answer: Answer::No(refusal),
             after: r,
         },
     }
@@ -622,20 +602,17 @@ pub fn set_value(r: Record, place: usize, value: u32) -> Served
 
 // Any request. A refusal hands the record back as it was.
 pub fn serve(r: Record, request: Request) -> Served
-    ensures { λ s. ⌜ (decisionAs (s .decision), s .after) ≡ servedOf request r ⌝ }
+    ensures { λ s. ⌜ (answerAs (s .answer), s .after) ≡ servedOf (requestAs request) r ⌝ }
 {
-    let decision = decide(r, request);
-    match decision {
-        Decision::Accepted => {
-            let after = apply(r, request);
-            Served {
-                decision: Decision::Accepted,
-                after: after,
-            }
-        }
-        Decision::Refused(refusal) => Served {
-            decision: Decision::Refused(refusal),
+    match request {
+        Request::Refused(refusal) => Served {
+            answer: Answer::No(refusal),
             after: r,
         },
+        Request::Read(reading) => Served {
+            answer: Answer::Shows(reading),
+            after: r,
+        },
+        Request::Write(writing) => serve_write(r, writing),
     }
 }

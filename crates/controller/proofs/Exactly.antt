@@ -16,22 +16,21 @@ use Rattle.base.specs.Test.{unless, allBetween}
 use Rattle.base.proofs.Tests.{by-test, and-left, and-right, below-or-not}
 use Rattle.base.specs.Text.{text}
 use Rattle.state.specs.declared.Record.{Record}
-use Rattle.state.specs.Field.{address, keypad, flow, get}
+use Rattle.state.specs.Field.{address, get}
 use Rattle.state.specs.Valid.{valid}
-use Rattle.state.specs.Event.{running, stopped}
-use Rattle.state.specs.Event as event
 use Rattle.frame.specs.declared.Kind.{Kind}
 use Rattle.frame.specs.Frame.{allText, namesUnit, addressIn, frameOf, textIn, withinLimits, marksRight, checkRight}
 use Rattle.base.proofs.Lists.{over-take}
 use Rattle.frame.proofs.RoundTrip.{frame-located}
-use Rattle.command.specs.Word.{digits, valueOf}
-use Rattle.command.specs.Status.{inPhases, isOn, first, statusCharacters}
-use Rattle.command.specs.Commands.{Command, codeIn, commands, rowOf}
+use Rattle.text.specs.Word.{digits, valueOf}
+use Rattle.command.specs.Status.{first, weightIn, statusCharacters}
+use Rattle.command.specs.Commands.{Command, Arguments, codeIn, printed, commands, rowOf}
 use Rattle.command.specs.Refusals.{Row, refusals, rowNumber, applies}
-use Rattle.command.specs.Answer.{Verdict, NO, accepted, verdict, replyFor, replyText}
-use Rattle.command.proofs.Parsing.{digits-length, value-digits}
+use Rattle.command.specs.Answer.{Verdict, NO, accepted, behindCode, argumentsIn, verdict, replyFor, replyText}
+use Rattle.text.proofs.Words.{digits-length, value-digits}
 use Rattle.command.proofs.Tables.{FirstAt, noRow}
-use Rattle.reply.proofs.Laws.{weight-high, Text, text-wider, text-joined, text-digits, text-labelled}
+use Rattle.command.proofs.Fits.{twoDigits}
+use Rattle.reply.proofs.Laws.{weights-high, Text, text-wider, text-joined, text-digits, text-labelled}
 use Rattle.controller.specs.Call.{Outcome, callOf}
 use Rattle.controller.proofs.Theorems.{reply-legal, is-answered, refusal-keeps, no-by-row, row-goes-out, accepted-by-none}
 
@@ -125,47 +124,34 @@ heard-exactly k r q o = subst (λ (n : ℕ). n ≡ 0 ↔ NoneFails (tests k r q 
 -- ---- no accepted reply begins with "N"
 
 -- EQ's first character is 0x3f at most
-status-begins : (r : Record) → eqb (0x30 + first r) 0x4e ≡ false
-status-begins r =
-    ne-eqb (0x30 + first r) 0x4e
-    (λ e.
-    omega (
-      arith,
-      weight-high 8 (isOn keypad r),
-      weight-high 4 (inPhases (running ∷ []) r),
-      weight-high 2 (isOn flow r),
-      weight-high 1 (inPhases (event.set ∷ running ∷ stopped ∷ []) r),
-    ))
+status-begins : (r : Record) → eqb (0x30 + weightIn r first) 0x4e ≡ false
+status-begins r = ne-eqb (0x30 + weightIn r first) 0x4e (λ e. omega (arith, weights-high r first))
 
 -- a text does not begin with "N"
 abbrev notN : List ℕ → Bool
 notN t = not (eqb (getD t 0 0) 0x4e)
 
--- nor does the reply of any row; a code of no row has the empty reply
-abbrev allNotN : List Command → List ℕ → Record → Bool
-allNotN [] t r = true
-allNotN (c ∷ cs) t r = notN (c .reply t r) && allNotN cs t r
+-- nor does the reply of any row
+abbrev allNotN : List Command → Arguments → Record → Bool
+allNotN [] x r = true
+allNotN (c ∷ cs) x r = notN (printed (c .reply x) r) && allNotN cs x r
 
-commands-not-N : (t : List ℕ) (r : Record) → allNotN commands t r ≡ true
+commands-not-N : (x : Arguments) (r : Record) → allNotN commands x r ≡ true
 unfolding statusCharacters
-commands-not-N t r = simp (status-begins r)
+commands-not-N x r = simp (status-begins r)
 
-row-not-N : (code : ℕ) (cs : List Command) (t : List ℕ) (r : Record) → allNotN cs t r ≡ true → notN (rowOf code cs .reply t r) ≡ true
+row-not-N : (code : ℕ) (cs : List Command) (x : Arguments) (r : Record) → allNotN cs x r ≡ true → notN (printed (rowOf code cs .reply x) r) ≡ true
 unfolding rowOf
-row-not-N code [] t r h = refl
-row-not-N code (c ∷ cs) t r h =
-    by-test (eqb code (c .code)) (λ e. simp e (and-left (notN (c .reply t r)) (allNotN cs t r) h))
-    (λ e. simp e (row-not-N code cs t r (and-right (notN (c .reply t r)) (allNotN cs t r) h)))
+row-not-N code [] x r h = refl
+row-not-N code (c ∷ cs) x r h =
+    by-test (eqb code (c .code)) (λ e. simp e (and-left (notN (printed (c .reply x) r)) (allNotN cs x r) h))
+    (λ e. simp e (row-not-N code cs x r (and-right (notN (printed (c .reply x) r)) (allNotN cs x r) h)))
 
 -- ---- every row's number has two digits
-abbrev allBelow : List Row → Bool
-allBelow [] = true
-allBelow (row ∷ rows) = ltb (rowNumber row) 100 && allBelow rows
-
-number-below : (rows : List Row) (i : ℕ) → allBelow rows ≡ true → rowNumber (getD rows i noRow) < 100
+number-below : (rows : List Row) (i : ℕ) → twoDigits rows ≡ true → rowNumber (getD rows i noRow) < 100
 number-below [] i h = omega arith
-number-below (row ∷ rows) zero h = ltb-true (rowNumber row) 100 (and-left (ltb (rowNumber row) 100) (allBelow rows) h)
-number-below (row ∷ rows) (suc i) h = number-below rows i (and-right (ltb (rowNumber row) 100) (allBelow rows) h)
+number-below (row ∷ rows) zero h = ltb-true (rowNumber row) 100 (and-left (ltb (rowNumber row) 100) (twoDigits rows) h)
+number-below (row ∷ rows) (suc i) h = number-below rows i (and-right (ltb (rowNumber row) 100) (twoDigits rows) h)
 
 -- ---- NO n goes out if and only if row n's own condition holds and no earlier row's does
 
@@ -179,13 +165,13 @@ sent k r q o = take (callOf k r q o .reported) (callOf k r q o .buffer)
 
 -- row n's own condition holds and no earlier row's does
 abbrev pub RowFirst : List ℕ → Record → ℕ → Type 0
-RowFirst t r n = (i : ℕ) × FirstAt refusals t r i × (rowNumber (getD refusals i noRow) ≡ n)
+RowFirst t r n = (i : ℕ) × FirstAt refusals (codeIn t) (behindCode t) r i × (rowNumber (getD refusals i noRow) ≡ n)
 
-row-verdict : {t : List ℕ} {r : Record} {n : ℕ} → RowFirst t r n → verdict t r ≡ NO n
-row-verdict {t} {r} (i, f, e) = row-goes-out t r i f ∙ ap NO e
+row-verdict : (t : List ℕ) (r : Record) (n : ℕ) → RowFirst t r n → verdict t r ≡ NO n
+row-verdict t r n (i, f, e) = row-goes-out t r i f ∙ ap NO e
 
-row-below : {t : List ℕ} {r : Record} {n : ℕ} → RowFirst t r n → n < 100
-row-below (i, f, e) = omega (arith, number-below refusals i refl)
+row-below : (t : List ℕ) (r : Record) (n : ℕ) → RowFirst t r n → n < 100
+row-below t r n (i, f, e) = omega (arith, number-below refusals i refl)
 
 -- the reply determines the verdict
 reply-verdict : (t : List ℕ) (r : Record) (n : ℕ) → n < 100 → replyFor (verdict t r) t r ≡ replyFor (NO n) t r → verdict t r ≡ NO n
@@ -194,8 +180,8 @@ reply-verdict t r n l = go (verdict t r) refl
     go : (v : Verdict) → verdict t r ≡ v → replyFor v t r ≡ replyFor (NO n) t r → verdict t r ≡ NO n
     go (NO m) e p =
         let same : valueOf (digits 2 m) ≡ valueOf (digits 2 n) = ap (λ (x : List ℕ). valueOf (drop 2 x)) p in
-        e ∙ ap NO (sym (value-digits 2 m (row-below (no-by-row t r m e))) ∙ (same ∙ value-digits 2 n l))
-    go accepted e p = not-both (notN (replyFor accepted t r)) (row-not-N (codeIn t) commands t r (commands-not-N t r)) (ap notN p)
+        e ∙ ap NO (sym (value-digits 2 m (row-below t r m (no-by-row t r m e))) ∙ (same ∙ value-digits 2 n l))
+    go accepted e p = not-both (notN (replyFor accepted t r)) (row-not-N (codeIn t) commands (argumentsIn t) r (commands-not-N (argumentsIn t) r)) (ap notN p)
 
 no-legal : (a n : ℕ) → Text 4 29 (digits 2 a ++ (text "NO" ++ digits 2 n))
 unfolding allBetween
@@ -229,24 +215,24 @@ module _ (k : Kind) (r : Record) (q o : List ℕ) (heard : callOf k r q o .silen
       )
 
   pub no-exactly : (n : ℕ) → n < 100 → sent k r q o ≡ noFrame k r n ↔ RowFirst (textIn k q) r n
-  no-exactly n l = (λ e. no-by-row (textIn k q) r n (verdict-exactly n l .0 e), λ f. verdict-exactly n l .1 (row-verdict f))
+  no-exactly n l = (λ e. no-by-row (textIn k q) r n (verdict-exactly n l .0 e), λ f. verdict-exactly n l .1 (row-verdict (textIn k q) r n f))
 
   -- and then the record stays as it was
   pub no-keeps : (n : ℕ) → RowFirst (textIn k q) r n → callOf k r q o .after ≡ r
-  no-keeps n f = is-answered k r q o heard .next-record ∙ refusal-keeps (textIn k q) r n (row-verdict f)
+  no-keeps n f = is-answered k r q o heard .next-record ∙ refusal-keeps (textIn k q) r n (row-verdict (textIn k q) r n f)
 
   pub no-sent-keeps : (n : ℕ) → n < 100 → sent k r q o ≡ noFrame k r n → callOf k r q o .after ≡ r
   no-sent-keeps n l e = no-keeps n (no-exactly n l .0 e)
 
   -- no row applies if and only if what goes out is no NO
-  pub accepted-exactly : ((j : ℕ) → j < length refusals → applies (getD refusals j noRow) (textIn k q) r ≡ false)
+  pub accepted-exactly : ((j : ℕ) → j < length refusals → applies (getD refusals j noRow) (codeIn (textIn k q)) (behindCode (textIn k q)) r ≡ false)
       ↔ ((n : ℕ) → n < 100 → sent k r q o ≡ noFrame k r n → ⊥)
   accepted-exactly = (
-    λ none n l e. let (i, f, m) = no-exactly n l .0 e in not-both (applies (getD refusals i noRow) (textIn k q) r) (f .holds) (none i (f .listed)),
+    λ none n l e. let (i, f, m) = no-exactly n l .0 e in not-both (applies (getD refusals i noRow) (codeIn (textIn k q)) (behindCode (textIn k q)) r) (f .holds) (none i (f .listed)),
     λ other. go other (verdict (textIn k q) r) refl,
   )
     where
       go : ((n : ℕ) → n < 100 → sent k r q o ≡ noFrame k r n → ⊥) → (v : Verdict) → verdict (textIn k q) r ≡ v
-          → (j : ℕ) → j < length refusals → applies (getD refusals j noRow) (textIn k q) r ≡ false
-      go other (NO n) e = let l = row-below (no-by-row (textIn k q) r n e) in absurd (other n l (verdict-exactly n l .1 e))
+          → (j : ℕ) → j < length refusals → applies (getD refusals j noRow) (codeIn (textIn k q)) (behindCode (textIn k q)) r ≡ false
+      go other (NO n) e = let l = row-below (textIn k q) r n (no-by-row (textIn k q) r n e) in absurd (other n l (verdict-exactly n l .1 e))
       go other accepted e = accepted-by-none (textIn k q) r e

@@ -1,7 +1,7 @@
 -- What each read request shows of a valid record. `Theorems.antt` puts a write before it. Assumes nothing.
 use Prim.Native.Nat.{ℕ, _+_, _*_, _/_, _%_, _≤_, _<_}
 use mathlib.Core.Bool.{true}
-use mathlib.Core.Path.{_≡_, refl, sym, ap, _∙_}
+use mathlib.Core.Path.{_≡_, refl, sym, ap, subst, _∙_}
 use mathlib.Core.List.{List, [], _∷_, _++_}
 use mathlib.Core.Logic.{⊎-elim}
 use native.Mathlib.Omega.{arith}
@@ -12,7 +12,7 @@ use Rattle.base.specs.Test.{allBetween}
 use Rattle.state.specs.declared.Record.{Record}
 use Rattle.state.specs.declared.Place.the-variants.{At}
 use Rattle.state.specs.Parameter.{recipes, parameterCount, placeOf}
-use Rattle.state.specs.Field.{Field, address, recipe, raw, number, value, level, get, position}
+use Rattle.state.specs.Field.{Field, address, access, recipe, raw, number, value, level, get, position}
 use Rattle.state.specs.Valid.{valid}
 use Rattle.base.proofs.Tests.{between-yes, below-or-not}
 use Rattle.state.proofs.Validity.{valid-tell}
@@ -22,14 +22,13 @@ use Rattle.frame.specs.Frame.{isCapital, allText, namesUnit, addressIn, frameOf
 use Rattle.base.specs.Lists.{over}
 use Rattle.frame.proofs.Laws.{found}
 use Rattle.frame.proofs.RoundTrip.{frame-located}
-use Rattle.command.specs.declared.Request.{Request}
-use Rattle.command.specs.declared.Request.the-variants.{Status, Codes, Number, Recipe, Composition, Raw, Value, Level}
-use Rattle.command.specs.Word.{space, digits, equal}
+use Rattle.text.specs.Word.{space, digits, valueOf, equal}
 use Rattle.command.specs.Status.{statusCharacters, statusCodes, codesOn}
-use Rattle.command.specs.Commands.{codeIn, formed, digitsBetween, spaced, factorPlace, Change, _≔_, applied}
-use Rattle.command.specs.Answer.{Verdict, accepted, replyText, recordAfter}
-use Rattle.command.specs.Request.{requestFor, requestOf, volumeOf, placeFor, guarded, verdictFor, shows, changes, recordTo}
-use Rattle.command.proofs.Parsing.{value-digits, digits-all}
+use Rattle.command.specs.Commands.{EQ, RS, TN, RR, RC, RT, PV, XV, codeIn, formed, digitsBetween, Arguments, none, aPlace, aWord, placeNumber, placeFor, parameterLabel, factorPlace, printed, Change, _≔_, applied, commands, rowOf}
+use Rattle.command.specs.Refusals.{refusals}
+use Rattle.command.specs.Answer.{replyText, recordAfter}
+use Rattle.command.specs.Request.{Asked, asked, firstByText, firstByArguments, askedWith, askedFor, askedIn, guardsIn, guarded, Answered, shows, servedOf}
+use Rattle.text.proofs.Words.{value-digits, digits-all}
 use Rattle.command.proofs.Tables.{numberAfter}
 use Rattle.command.proofs.Agree.{record-by-steps}
 use Rattle.reply.specs.Reply.{textFor}
@@ -47,49 +46,42 @@ code-small c i e =
 
 -- ---- the requests that ask
 module _ (n : ℕ) where
-  status-asked : requestOf (digits 2 n ++ text "EQ") ≡ Status
-  unfolding requestOf requestFor codeIn formed digits
-  status-asked = refl
+  plain-asked : (askedIn (digits 2 n ++ text "EQ") ≡ asked EQ none) × (askedIn (digits 2 n ++ text "RS") ≡ asked RS none)
+      × (askedIn (digits 2 n ++ text "TN") ≡ asked TN none) × (askedIn (digits 2 n ++ text "RR") ≡ asked RR none)
+      × (askedIn (digits 2 n ++ text "RC") ≡ asked RC none)
+  unfolding askedIn askedFor askedWith firstByText firstByArguments rowOf codeIn formed digits
+  plain-asked = (refl, refl, refl, refl, refl)
 
-  codes-asked : requestOf (digits 2 n ++ text "RS") ≡ Codes
-  unfolding requestOf requestFor codeIn formed digits
-  codes-asked = refl
-
-  number-asked : requestOf (digits 2 n ++ text "TN") ≡ Number
-  unfolding requestOf requestFor codeIn formed digits
-  number-asked = refl
-
-  recipe-asked : requestOf (digits 2 n ++ text "RR") ≡ Recipe
-  unfolding requestOf requestFor codeIn formed digits
-  recipe-asked = refl
-
-  composition-asked : requestOf (digits 2 n ++ text "RC") ≡ Composition
-  unfolding requestOf requestFor codeIn formed digits
-  composition-asked = refl
-
-  raw-asked : requestOf (digits 2 n ++ spaced (text "RT" ∷ text "R" ∷ [])) ≡ Raw
-  unfolding requestOf requestFor codeIn volumeOf formed digits equal
+  raw-asked : askedIn (digits 2 n ++ text "RT R") ≡ asked RT (aWord (text "R"))
+  unfolding askedIn askedFor askedWith firstByText firstByArguments rowOf codeIn formed digits equal
   raw-asked = refl
 
-  value-asked : (p : ℕ) → p < 1000 → requestOf (digits 2 n ++ spaced (text "PV" ∷ digits 3 p ∷ [])) ≡ Value p
-  unfolding requestOf requestFor codeIn formed digitsBetween digits
-  value-asked p h = simp (digits-all 3 p) (ap Value (value-digits 3 p h))
+  module _ (p i : ℕ) (e : placeOf p ≡ At i) where
+    placed : placeFor (valueOf (digits 3 p)) ≡ i
+    placed = ap placeFor (value-digits 3 p (code-small p i e)) ∙ ap placeNumber e
 
-  level-asked : (p : ℕ) → p < 1000 → requestOf (digits 2 n ++ spaced (text "XV" ∷ digits 3 p ∷ [])) ≡ Level p
-  unfolding requestOf requestFor codeIn formed digitsBetween digits
-  level-asked p h = simp (digits-all 3 p) (ap Level (value-digits 3 p h))
+    parameter-asked : (askedIn (digits 2 n ++ (text "PV " ++ digits 3 p)) ≡ asked PV (aPlace i 0)) × (askedIn (digits 2 n ++ (text "XV " ++ digits 3 p)) ≡ asked XV (aPlace i 0))
+    unfolding askedIn askedFor askedWith firstByText firstByArguments rowOf codeIn formed digitsBetween digits
+    parameter-asked = let l = lt-ltb i parameterCount (code-has-place p i e .0) in (simp (digits-all 3 p, placed, l), simp (digits-all 3 p, placed, l))
+
+-- ---- what is shown: "PV ppp vvvvvvvv", "XV ppp l", "RC rr vvvvvvvv"
+abbrev pub parameterShown : List ℕ → ℕ → ℕ → ℕ → List ℕ
+parameterShown w p width n = (w ++ (digits 3 p ++ (space ∷ []))) ++ digits width n
+
+abbrev pub composed : ℕ → ℕ → List ℕ
+composed r f = (text "RC " ++ digits 2 r) ++ (space ∷ digits 8 f)
 
 -- ---- the call that answers them
 
--- asked so at address n, the record shows this and stays as it was
+-- asked this at address n, the record shows that and stays as it was
 abbrev pub AnswersAt : Kind → Record → List ℕ → ℕ → List ℕ → List ℕ → Type 0
-AnswersAt k s o n asked shown =
-    callOf k s (frameOf k (digits 2 n ++ asked)) o
+AnswersAt k s o n question shown =
+    callOf k s (frameOf k (digits 2 n ++ question)) o
     ≡ record { silence = 0; reported = length (frameOf k (digits 2 n ++ shown)); after = s; buffer = over (frameOf k (digits 2 n ++ shown)) o }
 
 module _ (k : Kind) (s : Record) (o : List ℕ) (v : valid s ≡ true) (room : 64 ≤ length o) where
   abbrev Answers : List ℕ → List ℕ → Type 0
-  Answers asked shown = AnswersAt k s o (get address s) asked shown
+  Answers question shown = AnswersAt k s o (get address s) question shown
 
   -- the unit that its own address digits name
   named : (c d : ℕ) (rest : List ℕ) → isCapital c ≡ true → isCapital d ≡ true → namesUnit (digits 2 (s .address) ++ (c ∷ d ∷ rest)) ≡ true
@@ -113,70 +105,77 @@ module _ (k : Kind) (s : Record) (o : List ℕ) (v : valid s ≡ true) (room : 6
       let g = found k (frameOf k t) (length t) (l .0) in
       simp (v, le-leb 64 (length o) room, g .limits, g .marks, g .sum, l .1, f .bytes, n, eq-eqb (addressIn t) (s .address) a)
 
-  answers : (c d : ℕ) (rest : List ℕ) (q : Request) → isCapital c ≡ true → isCapital d ≡ true → Text 2 58 (c ∷ d ∷ rest)
-      → requestOf (digits 2 (s .address) ++ (c ∷ d ∷ rest)) ≡ q → verdictFor q s ≡ accepted → changes q s ≡ [] → Answers (c ∷ d ∷ rest) (shows q s)
-  unfolding textFor applied
-  answers c d rest q x y f e ok none =
+  -- a request that no row of the record concerns and that changes nothing
+  read-served : (q : ℕ) (x : Arguments) → guardsIn refusals q x (get access s) ≡ [] → rowOf q commands .effect x ≡ []
+      → servedOf (asked q x) s ≡ (shows (rowOf q commands .reply x), s)
+  unfolding servedOf guarded applied
+  read-served q x g e = simp (g, e)
+
+  answers : (c d : ℕ) (rest : List ℕ) (q : ℕ) (x : Arguments) → isCapital c ≡ true → isCapital d ≡ true → Text 2 58 (c ∷ d ∷ rest)
+      → askedIn (digits 2 (s .address) ++ (c ∷ d ∷ rest)) ≡ asked q x → guardsIn refusals q x (get access s) ≡ [] → rowOf q commands .effect x ≡ []
+      → Answers (c ∷ d ∷ rest) (printed (rowOf q commands .reply x) s)
+  unfolding textFor
+  answers c d rest q x h i f e g n =
       let t : List ℕ = digits 2 (s .address) ++ (c ∷ d ∷ rest) in
       let legal : Text 4 60 t = text-joined 2 2 2 58 (digits 2 (s .address)) (c ∷ d ∷ rest) (text-digits 2 (s .address)) f in
-      let reply-is : replyText t s ≡ digits 2 (s .address) ++ shows q s =
-      sym (text-by-steps t s) ∙ (ap (λ (z : Request). textFor (verdictFor z s) z s) e ∙ ap (λ (z : Verdict). textFor z q s) ok) in
-      let record-is : recordAfter t s ≡ s =
-      sym (record-by-steps t s) ∙ (ap (λ (z : Request). recordTo (verdictFor z s) z s) e ∙ (ap (λ (z : Verdict). recordTo z q s) ok ∙ ap (λ (z : List Change). applied z s) none)) in
-      called t legal (named c d rest x y) (numbered c d rest) ∙ simp (reply-is, record-is)
+      let served : servedOf (askedIn t) s ≡ (shows (rowOf q commands .reply x), s) = ap (λ (z : Asked). servedOf z s) e ∙ read-served q x g n in
+      let reply-is : replyText t s ≡ digits 2 (s .address) ++ printed (rowOf q commands .reply x) s =
+      sym (text-by-steps t s) ∙ ap (λ (z : Answered × Record). textFor (z .0) s) served in
+      let record-is : recordAfter t s ≡ s = sym (record-by-steps t s) ∙ ap (λ (z : Answered × Record). z .1) served in
+      called t legal (named c d rest h i) (numbered c d rest) ∙ simp (reply-is, record-is)
 
   two : (c d : ℕ) → allText (c ∷ d ∷ []) ≡ true → Text 2 58 (c ∷ d ∷ [])
   two c d h = text-wider 2 2 2 58 (c ∷ d ∷ []) (omega arith) (omega arith) (text-word (c ∷ d ∷ []) h)
 
   pub status-read : Answers (text "EQ") (statusCharacters s)
-  unfolding verdictFor guarded allBetween
-  status-read = answers 0x45 0x51 [] Status refl refl (two 0x45 0x51 refl) (status-asked (s .address)) refl refl
+  unfolding guardsIn rowOf allBetween
+  status-read = answers 0x45 0x51 [] EQ none refl refl (two 0x45 0x51 refl) (plain-asked (s .address) .0) refl refl
 
-  pub codes-read : Answers (text "RS") (text "RS" ++ (space ∷ codesOn statusCodes s))
-  unfolding verdictFor guarded allBetween
-  codes-read = answers 0x52 0x53 [] Codes refl refl (two 0x52 0x53 refl) (codes-asked (s .address)) refl refl
+  pub codes-read : Answers (text "RS") (text "RS " ++ codesOn statusCodes s)
+  unfolding guardsIn rowOf allBetween
+  codes-read = answers 0x52 0x53 [] RS none refl refl (two 0x52 0x53 refl) (plain-asked (s .address) .1) refl refl
 
-  pub number-read : Answers (text "TN") (spaced (text "TN" ∷ digits 4 (get number s) ∷ []))
-  unfolding verdictFor guarded allBetween
-  number-read = answers 0x54 0x4e [] Number refl refl (two 0x54 0x4e refl) (number-asked (s .address)) refl refl
+  pub number-read : Answers (text "TN") (text "TN " ++ digits 4 (get number s))
+  unfolding guardsIn rowOf allBetween
+  number-read = answers 0x54 0x4e [] TN none refl refl (two 0x54 0x4e refl) (plain-asked (s .address) .2) refl refl
 
-  pub recipe-read : Answers (text "RR") (spaced (text "RR" ∷ digits 2 (get recipe s) ∷ []))
-  unfolding verdictFor guarded allBetween
-  recipe-read = answers 0x52 0x52 [] Recipe refl refl (two 0x52 0x52 refl) (recipe-asked (s .address)) refl refl
+  pub recipe-read : Answers (text "RR") (text "RR " ++ digits 2 (get recipe s))
+  unfolding guardsIn rowOf allBetween
+  recipe-read = answers 0x52 0x52 [] RR none refl refl (two 0x52 0x52 refl) (plain-asked (s .address) .3) refl refl
 
-  pub composition-read : Answers (text "RC")
-      (spaced (text "RC" ∷ digits 2 (get recipe s) ∷ digits 8 (get (value (factorPlace (get recipe s))) s) ∷ []))
-  unfolding verdictFor guarded allBetween
-  composition-read = answers 0x52 0x43 [] Composition refl refl (two 0x52 0x43 refl) (composition-asked (s .address)) refl refl
+  pub composition-read : Answers (text "RC") (composed (get recipe s) (get (value (factorPlace (get recipe s))) s))
+  unfolding guardsIn rowOf allBetween
+  composition-read = answers 0x52 0x43 [] RC none refl refl (two 0x52 0x43 refl) (plain-asked (s .address) .4) refl refl
 
-  pub raw-read : Answers (spaced (text "RT" ∷ text "R" ∷ [])) (spaced (text "RT" ∷ text "R" ∷ digits 8 (get raw s) ∷ []))
-  unfolding verdictFor guarded allBetween
+  pub raw-read : Answers (text "RT R") (text "RT R " ++ digits 8 (get raw s))
+  unfolding guardsIn rowOf allBetween
   raw-read =
-      let t : List ℕ = 0x52 ∷ 0x54 ∷ 0x20 ∷ 0x52 ∷ [] in
-      answers 0x52 0x54 (0x20 ∷ 0x52 ∷ []) Raw refl refl (text-wider 4 4 2 58 t (omega arith) (omega arith) (text-word t refl)) (raw-asked (s .address)) refl refl
+      let t : List ℕ = text "RT R" in
+      answers 0x52 0x54 (0x20 ∷ 0x52 ∷ []) RT (aWord (text "R")) refl refl (text-wider 4 4 2 58 t (omega arith) (omega arith) (text-word t refl))
+      (raw-asked (s .address)) refl refl
 
   module _ (p i : ℕ) (e : placeOf p ≡ At i) where
-    listed-so : i < parameterCount
-    listed-so = code-has-place p i e .0
+    -- the label has the code that was asked for
+    label-so : (w : List ℕ) → parameterLabel w i ≡ w ++ (digits 3 p ++ (space ∷ []))
+    label-so w = ap (λ (c : ℕ). w ++ (digits 3 c ++ (space ∷ []))) (code-has-place p i e .1)
 
     coded : (c d : ℕ) → allText (c ∷ d ∷ space ∷ []) ≡ true → Text 2 58 (c ∷ d ∷ space ∷ digits 3 p)
     coded c d h = text-wider 6 6 2 58 _ (omega arith) (omega arith) (text-labelled (c ∷ d ∷ space ∷ []) 3 p h)
 
-    pub value-read : Answers (spaced (text "PV" ∷ digits 3 p ∷ [])) (spaced (text "PV" ∷ digits 3 p ∷ digits 8 (get (value (placeFor p)) s) ∷ []))
-    unfolding verdictFor guarded allBetween
+    pub value-read : Answers (text "PV " ++ digits 3 p) (parameterShown (text "PV ") p 8 (get (value i) s))
+    unfolding guardsIn rowOf allBetween
     value-read =
-        answers 0x50 0x56 (space ∷ digits 3 p) (Value p) refl refl (coded 0x50 0x56 refl) (value-asked (s .address) p (code-small p i e))
-        (simp (e, lt-ltb i parameterCount listed-so)) refl
+        subst (λ (w : List ℕ). Answers (text "PV " ++ digits 3 p) (w ++ digits 8 (get (value i) s))) (label-so (text "PV "))
+        (answers 0x50 0x56 (space ∷ digits 3 p) PV (aPlace i 0) refl refl (coded 0x50 0x56 refl) (parameter-asked (s .address) p i e .0) refl refl)
 
-    pub level-read : Answers (spaced (text "XV" ∷ digits 3 p ∷ [])) (spaced (text "XV" ∷ digits 3 p ∷ digits 1 (get (level (placeFor p)) s) ∷ []))
-    unfolding verdictFor guarded allBetween
+    pub level-read : Answers (text "XV " ++ digits 3 p) (parameterShown (text "XV ") p 1 (get (level i) s))
+    unfolding guardsIn rowOf allBetween
     level-read =
-        answers 0x58 0x56 (space ∷ digits 3 p) (Level p) refl refl (coded 0x58 0x56 refl) (level-asked (s .address) p (code-small p i e))
-        (simp (e, lt-ltb i parameterCount listed-so)) refl
+        subst (λ (w : List ℕ). Answers (text "XV " ++ digits 3 p) (w ++ digits 1 (get (level i) s))) (label-so (text "XV "))
+        (answers 0x58 0x56 (space ∷ digits 3 p) XV (aPlace i 0) refl refl (coded 0x58 0x56 refl) (parameter-asked (s .address) p i e .1) refl refl)
 
 -- RC shows two numbers
-pub composition-same : (a b x y : ℕ) → a ≡ b → x ≡ y
-    → spaced (text "RC" ∷ digits 2 a ∷ digits 8 x ∷ []) ≡ spaced (text "RC" ∷ digits 2 b ∷ digits 8 y ∷ [])
+pub composition-same : (a b x y : ℕ) → a ≡ b → x ≡ y → composed a x ≡ composed b y
 composition-same a b x y e f = cc
 
 -- ---- a field after changes

@@ -26,12 +26,12 @@ use Rattle.base.proofs.Lists.{over-length, over-over}
 use Rattle.frame.proofs.Laws.{Sizes, addressed-named, found-text, found-sizes, framed-built, frame-length, over-held, part-back}
 use Rattle.command.specs.declared.Request.{Request}
 use Rattle.command.specs.declared.Served.{Served}
-use Rattle.command.specs.Word.{digits}
-use Rattle.command.specs.Answer.{Verdict, replyText, recordAfter}
-use Rattle.command.specs.Request.{decisionAs, requestOf, verdictFor, servedOf, recordTo}
-use Rattle.command.proofs.Agree.{reply-by-steps, record-by-steps}
+use Rattle.text.specs.Word.{digits}
+use Rattle.command.specs.Answer.{replyText, recordAfter}
+use Rattle.command.specs.Request.{Asked, askedIn, Answered, servedOf, requestAs, answerAs}
+use Rattle.command.proofs.Agree.{answer-by-steps, record-by-steps}
 use Rattle.reply.specs.Reply.{textFor, writtenOf}
-use Rattle.reply.proofs.Laws.{verdict-answers, text-legal}
+use Rattle.reply.proofs.Laws.{served-answers, text-legal}
 use Rattle.controller.specs.declared.Called.{Called}
 use Rattle.controller.specs.declared.Answer.the-variants as answer
 use Rattle.controller.specs.Call.{Outcome, silent, replied, callOf, outcomeAs, silentAs}
@@ -39,9 +39,9 @@ use Rattle.controller.specs.Call.{Outcome, silent, replied, callOf, outc
 -- ---- the reply to a text
 
 -- the steps write the reply's text
-pub text-by-steps : (t : List ℕ) (r : Record) → textFor (verdictFor (requestOf t) r) (requestOf t) r ≡ replyText t r
+pub text-by-steps : (t : List ℕ) (r : Record) → textFor (servedOf (askedIn t) r .0) r ≡ replyText t r
 unfolding textFor replyText
-text-by-steps t r = ap (λ (xs : List ℕ). digits 2 (r .address) ++ xs) (reply-by-steps t r)
+text-by-steps t r = ap (λ (xs : List ℕ). digits 2 (r .address) ++ xs) (answer-by-steps t r)
 
 -- a text laid from the second byte on, and closed
 closed : (k : Kind) (x o ys b : List ℕ) (n : ℕ) (y : Answer) → 64 ≤ length o → 4 ≤ length x → length x ≤ 60 → allText x ≡ true
@@ -62,22 +62,21 @@ closed k x o ys b n y room low high legal size laid built =
 
 -- what `answered` returns
 pub text-answered : (k : Kind) (t o ys b : List ℕ) (r : Record) (q : Request) (s : Served) (n m : ℕ) (f : Built) → 64 ≤ length o
-    → q ≡ requestOf t → (decisionAs (s .decision), s .after) ≡ servedOf q r
-    → (n, ys) ≡ writtenOf (decisionAs (s .decision)) q r (take (length o - 1) (drop 1 o))
+    → requestAs q ≡ askedIn t → (answerAs (s .answer), s .after) ≡ servedOf (requestAs q) r
+    → (n, ys) ≡ writtenOf (answerAs (s .answer)) r (take (length o - 1) (drop 1 o))
     → (builtAs f, b) ≡ buildOf k (take n (drop 1 (putMid 1 (length o - 1) o ys))) (putMid 1 (length o - 1) o ys)
     → m ≡ lengthIn (builtAs f) → outcomeAs (answer.Reply m) (s .after) b ≡ replied k t r o
-unfolding servedOf writtenOf
+unfolding writtenOf
 text-answered k t o ys b r q s n m f room e serve write build size =
-    let v : Verdict = verdictFor (requestOf t) r in
-    let x : List ℕ = textFor v (requestOf t) r in
-    let decided : decisionAs (s .decision) ≡ v = ap (λ (p : Verdict × Record). p .0) serve ∙ ap (λ (y : Request). verdictFor y r) e in
-    let record-is : s .after ≡ recordAfter t r =
-    ap (λ (p : Verdict × Record). p .1) serve ∙ (ap (λ (y : Request). recordTo (verdictFor y r) y r) e ∙ record-by-steps t r) in
-    let legal = text-legal v (requestOf t) r (verdict-answers (requestOf t) r) in
+    let served : (answerAs (s .answer), s .after) ≡ servedOf (askedIn t) r = serve ∙ ap (λ (y : Asked). servedOf y r) e in
+    let a : Answered = servedOf (askedIn t) r .0 in
+    let x : List ℕ = textFor a r in
+    let answer-is : answerAs (s .answer) ≡ a = ap (λ (p : Answered × Record). p .0) served in
+    let record-is : s .after ≡ recordAfter t r = ap (λ (p : Answered × Record). p .1) served ∙ record-by-steps t r in
+    let legal = text-legal a r (served-answers (askedIn t) r) in
     let long : 60 ≤ length (take (length o - 1) (drop 1 o)) = simp (length-take, length-drop) (omega arith) in
     let wrote : _≡_ {A = ℕ × List ℕ} (n, ys) (length x, over x (take (length o - 1) (drop 1 o))) =
-    write ∙ (ap (λ (w : Verdict). writtenOf w q r (take (length o - 1) (drop 1 o))) decided
-    ∙ (ap (λ (y : Request). writtenOf v y r (take (length o - 1) (drop 1 o))) e ∙ simp (le-leb 60 (length (take (length o - 1) (drop 1 o))) long))) in
+    write ∙ (ap (λ (w : Answered). writtenOf w r (take (length o - 1) (drop 1 o))) answer-is ∙ simp (le-leb 60 (length (take (length o - 1) (drop 1 o))) long)) in
     let c = closed k x o ys b n (builtAs f) room (legal .low) (let h = legal .high in omega arith) (legal .bytes)
     (ap (λ (p : ℕ × List ℕ). p .0) wrote) (ap (λ (p : ℕ × List ℕ). p .1) wrote) build in
     let reported : m ≡ length (frameOf k (replyText t r)) = size ∙ (ap lengthIn (c .0) ∙ ap (λ (l : List ℕ). length (frameOf k l)) (text-by-steps t r)) in

@@ -1,22 +1,22 @@
 -- What is proved of every call, for any record, kind of link, request bytes and reply buffer. Assumes nothing.
-use Prim.Native.Nat.{ℕ, _+_, _≤_, _<_}
-use mathlib.Core.Bool.{Bool, true, false}
+use Prim.Native.Nat.{ℕ, _+_, _*_, _≤_, _<_}
+use mathlib.Core.Bool.{true, false}
 use mathlib.Core.Path.{_≡_, refl, sym, ap, subst, _∙_}
-use mathlib.Core.List.{List, [], _∷_, _++_}
+use mathlib.Core.List.{List, [], _∷_, _++_, map}
 use mathlib.Core.Logic.{_⊎_, inl, inr, ⊎-elim}
 use native.Mathlib.Omega.{arith}
 use lib.Dec.{eqb, leb}
-use lib.ListN.{length, take, getD}
-use borrow.Author.Tests.{leb-true}
+use lib.ListN.{length, take, drop, getD}
+use borrow.Author.Tests.{leb-true, ne-eqb}
 use Rattle.base.specs.Text.{text}
 use Rattle.state.specs.declared.Record.{Record}
 use Rattle.state.specs.declared.Place.{Place}
 use Rattle.state.specs.declared.Place.the-variants.{At, Nothing}
-use Rattle.base.specs.Test.{pick, member}
-use Rattle.state.specs.Parameter.{placeOf}
-use Rattle.state.specs.Field.{Field, address, phase, keypad, flow, changed, reset, powerfail, recipe, preset, raw, number, value, level, position, get, on, off}
+use Rattle.base.specs.Test.{pick}
+use Rattle.state.specs.Parameter.{parameterCount, placeOf}
+use Rattle.state.specs.Field.{Field, address, phase, changed, reset, recipe, preset, raw, number, value, level, position, get, on, flagNumber}
 use Rattle.state.specs.Valid.{valid}
-use Rattle.state.specs.Event.{idle, set, running, stopped, done, nextNumber}
+use Rattle.state.specs.Event.{set, nextNumber}
 use Rattle.frame.specs.declared.Kind.{Kind}
 use Rattle.frame.specs.declared.Kind.the-variants.{Minicomputer, Terminal}
 use Rattle.frame.specs.Frame.{allText, namesUnit, addressIn, frameOf, textIn, withinLimits, marksRight, checkRight}
@@ -25,21 +25,21 @@ use Rattle.frame.specs.Answer.{readOf}
 use Rattle.base.specs.Lists.{over}
 use Rattle.frame.proofs.Laws.{frame-length, framed-built}
 use Rattle.frame.proofs.RoundTrip.{read-built}
-use Rattle.command.specs.Word.{space, digits}
-use Rattle.command.specs.Status.{weight, statusCharacters, codesOn}
-use Rattle.command.specs.Commands.{PV, XV, PC, XC, NR, SB, SA, SP, ET, RE, codeIn, commands, rowOf, spaced, parameterIn, placeIn, numberIn, secondIn, factorPlace, flagNamed, Change, _≔_}
-use Rattle.command.specs.Refusals.{refusals, rowNumber, applies, isNowhere}
-use Rattle.command.specs.Answer.{Verdict, NO, verdict, recordFor, replyText, recordAfter}
+use Rattle.text.specs.Word.{space, digits, valueOf}
+use Rattle.command.specs.Status.{Bit, characters, weightIn, statusCharacters, Code, statusCodes, codesOn}
+use Rattle.command.specs.Commands.{PV, XV, PC, XC, NR, SB, codeIn, Arguments, placeNumber, placeFor, commands, rowOf, factorPlace, Change, becomes, _≔_, nextBatch}
+use Rattle.command.specs.Refusals.{refusals, rowNumber, applies, of, argumentsFor}
+use Rattle.command.specs.Answer.{Verdict, NO, behindCode, argumentsIn, verdict, recordFor, replyText, recordAfter}
 use Rattle.command.specs.Answer as tables
-use Rattle.command.specs.Request.{requestOf, verdictFor}
+use Rattle.command.specs.Request.{askedIn}
 use Rattle.base.proofs.Tests.{by-test}
 use Rattle.command.proofs.Tables.{FirstAt, noRow, first-goes-out, by-first, none-applies, accepted-if-none, numberAfter, Fitting, applied-valid, applied-reads}
-use Rattle.command.proofs.Fits.{accepted-fits}
-use Rattle.command.proofs.Agree.{verdict-by-steps, effect-by-steps}
-use Rattle.reply.proofs.Laws.{Text, text-legal, verdict-answers}
+use Rattle.command.proofs.Fits.{Sound, SoundAsked, asked-sound, accepted-fits}
+use Rattle.command.proofs.Agree.{accepted-asked}
+use Rattle.reply.proofs.Laws.{Text, text-legal, served-answers}
 use Rattle.controller.specs.Call.{Outcome, silent, replied, callOf}
 use Rattle.controller.proofs.Steps.{text-by-steps}
-use Rattle.controller.proofs.ReadBack.{AnswersAt, composition-same, status-read, codes-read, number-read, recipe-read, composition-read, raw-read, value-read, level-read, skipped, shown-first}
+use Rattle.controller.proofs.ReadBack.{parameterShown, composed, AnswersAt, composition-same, status-read, codes-read, number-read, recipe-read, composition-read, raw-read, value-read, level-read, skipped, shown-first}
 
 -- ---- every input gets a reply or exactly one named silence
 
@@ -64,7 +64,7 @@ pub record Answered (k : Kind) (r : Record) (q o : List ℕ) : Type 0 where
 
 -- a reply's text is legal, and its frame fits the buffer
 pub reply-legal : (t : List ℕ) (r : Record) → Text 4 29 (replyText t r)
-reply-legal t r = subst (Text 4 29) (text-by-steps t r) (text-legal (verdictFor (requestOf t) r) (requestOf t) r (verdict-answers (requestOf t) r))
+reply-legal t r = subst (Text 4 29) (text-by-steps t r) (text-legal _ r (served-answers (askedIn t) r))
 
 frame-sizes : (k : Kind) (t : List ℕ) → Text 4 29 t → (7 ≤ length (frameOf k t)) × (length (frameOf k t) ≤ 64)
 frame-sizes Minicomputer t f = omega (arith, frame-length Minicomputer t)
@@ -117,10 +117,6 @@ pub refusal-keeps : (t : List ℕ) (r : Record) (n : ℕ) → verdict t r ≡ NO
 unfolding recordAfter
 refusal-keeps t r n h = ap (λ (v : Verdict). recordFor v t r) h
 
--- the changes of an accepted request fit the record
-fitting : (t : List ℕ) (r : Record) → valid r ≡ true → verdict t r ≡ tables.accepted → Fitting (rowOf (codeIn t) commands .effect t r)
-fitting t r v h = subst (λ (cs : List Change). Fitting cs) (sym (effect-by-steps t r h)) (accepted-fits r v t (verdict-by-steps t r ∙ h))
-
 -- a valid record stays valid
 pub call-keeps-valid : (k : Kind) (r : Record) (q o : List ℕ) → valid r ≡ true → valid (callOf k r q o .after) ≡ true
 unfolding recordAfter
@@ -130,31 +126,31 @@ call-keeps-valid k r q o h =
   where
     kept : (v : Verdict) → verdict (textIn k q) r ≡ v → valid (recordFor v (textIn k q) r) ≡ true
     kept (NO n) e = h
-    kept tables.accepted e = applied-valid r h (rowOf (codeIn (textIn k q)) commands .effect (textIn k q) r) (fitting (textIn k q) r h e)
+    kept tables.accepted e = applied-valid r h (rowOf (codeIn (textIn k q)) commands .effect (argumentsIn (textIn k q))) (accepted-fits (textIn k q) r e)
 
 -- ---- NOnn goes out if and only if row nn's own condition holds and no earlier row's does; accepted if and only if none does
-pub no-by-row : (t : List ℕ) (r : Record) (n : ℕ) → verdict t r ≡ NO n → (i : ℕ) × FirstAt refusals t r i × (rowNumber (getD refusals i noRow) ≡ n)
+pub no-by-row : (t : List ℕ) (r : Record) (n : ℕ) → verdict t r ≡ NO n → (i : ℕ) × FirstAt refusals (codeIn t) (behindCode t) r i × (rowNumber (getD refusals i noRow) ≡ n)
 unfolding verdict
-no-by-row t r n h = by-first t r refusals n h
+no-by-row t r n h = by-first (codeIn t) (behindCode t) r refusals n h
 
-pub row-goes-out : (t : List ℕ) (r : Record) (i : ℕ) → FirstAt refusals t r i → verdict t r ≡ NO (rowNumber (getD refusals i noRow))
+pub row-goes-out : (t : List ℕ) (r : Record) (i : ℕ) → FirstAt refusals (codeIn t) (behindCode t) r i → verdict t r ≡ NO (rowNumber (getD refusals i noRow))
 unfolding verdict
-row-goes-out t r i f = first-goes-out t r refusals i f
+row-goes-out t r i f = first-goes-out (codeIn t) (behindCode t) r refusals i f
 
-pub accepted-by-none : (t : List ℕ) (r : Record) → verdict t r ≡ tables.accepted → (j : ℕ) → j < length refusals → applies (getD refusals j noRow) t r ≡ false
+pub accepted-by-none : (t : List ℕ) (r : Record) → verdict t r ≡ tables.accepted → (j : ℕ) → j < length refusals → applies (getD refusals j noRow) (codeIn t) (behindCode t) r ≡ false
 unfolding verdict
-accepted-by-none t r h j l = none-applies t r refusals h j l
+accepted-by-none t r h j l = none-applies (codeIn t) (behindCode t) r refusals h j l
 
-pub none-accepts : (t : List ℕ) (r : Record) → ((j : ℕ) → j < length refusals → applies (getD refusals j noRow) t r ≡ false) → verdict t r ≡ tables.accepted
+pub none-accepts : (t : List ℕ) (r : Record) → ((j : ℕ) → j < length refusals → applies (getD refusals j noRow) (codeIn t) (behindCode t) r ≡ false) → verdict t r ≡ tables.accepted
 unfolding verdict
-none-accepts t r h = accepted-if-none t r refusals h
+none-accepts t r h = accepted-if-none (codeIn t) (behindCode t) r refusals h
 
 -- ---- an accepted request changes what its row names and nothing else, whatever the field
 pub changes-exactly : (t : List ℕ) (r : Record) → valid r ≡ true → verdict t r ≡ tables.accepted → (g : Field)
-    → get g (recordAfter t r) ≡ numberAfter g (rowOf (codeIn t) commands .effect t r) r
+    → get g (recordAfter t r) ≡ numberAfter g (rowOf (codeIn t) commands .effect (argumentsIn t)) r
 unfolding recordAfter
 changes-exactly t r v h g =
-    ap (λ (x : Verdict). get g (recordFor x t r)) h ∙ applied-reads r v (rowOf (codeIn t) commands .effect t r) (fitting t r v h) g
+    ap (λ (x : Verdict). get g (recordFor x t r)) h ∙ applied-reads r v (rowOf (codeIn t) commands .effect (argumentsIn t)) (accepted-fits t r h) g
 
 -- ---- a frame that a call replies with is read back by the host side and gives the reply's text
 pub is-answered : (k : Kind) (r : Record) (q o : List ℕ) → callOf k r q o .silence ≡ 0 → Answered k r q o
@@ -177,22 +173,49 @@ host-reads k r q o o′ h l =
       left = sym (a .frame);
     })
 
--- ---- EQ's characters and RS's codes by a phase and the five flags
-abbrev pub statusFrom : ℕ → ℕ → ℕ → ℕ → ℕ → ℕ → List ℕ
-statusFrom p k f c b w =
-    (0x30 + (weight 8 (eqb k on) + weight 4 (member p (running ∷ [])) + weight 2 (eqb f on) + weight 1 (member p (set ∷ running ∷ stopped ∷ []))))
-    ∷ (0x30 + (weight 8 (member p (running ∷ stopped ∷ [])) + weight 4 (member p (done ∷ [])) + weight 2 (eqb b on)))
-    ∷ 0x30 ∷ (0x30 + (weight 8 (eqb c on) + weight 1 (eqb w on))) ∷ 0x30 ∷ 0x30 ∷ []
+-- ---- EQ's characters and RS's codes by the fields' numbers
+unfoldable pub weightBy : (Field → ℕ) → List Bit → ℕ
+weightBy v [] = 0
+weightBy v (b ∷ bs) = b .weight * flagNumber (b .if .holds (v (b .if .field))) + weightBy v bs
 
-abbrev pub codesFrom : ℕ → ℕ → ℕ → ℕ → ℕ → ℕ → List ℕ
-codesFrom p k f c b w =
-    pick (eqb f on) (text "FL ") [] ++ (pick (eqb b on) (text "BD ") [] ++ (pick (eqb c on) (text "PC ") []
-    ++ (pick (eqb w on) (text "PF ") [] ++ (pick (eqb k on) (text "PW ") [] ++ (pick (member p (done ∷ [])) (text "TD ") []
-    ++ (pick (member p (running ∷ stopped ∷ [])) (text "TP ") [] ++ (pick (member p (running ∷ [])) (text "RL ") [] ++ [])))))))
+abbrev pub statusBy : (Field → ℕ) → List (List Bit) → List ℕ
+statusBy v [] = []
+statusBy v (bs ∷ bss) = (0x30 + weightBy v bs) ∷ statusBy v bss
 
--- the requests that name a parameter
-abbrev of-parameter : ℕ → Bool
-of-parameter c = member c (PV ∷ XV ∷ PC ∷ XC ∷ [])
+unfoldable pub codesBy : (Field → ℕ) → List Code → List ℕ
+codesBy v [] = []
+codesBy v (c ∷ cs) = pick (c .if .holds (v (c .if .field))) (c .letters ++ (space ∷ [])) [] ++ codesBy v cs
+
+-- a record whose fields hold these numbers shows so
+module _ (s : Record) (v : Field → ℕ) (h : (f : Field) → get f s ≡ v f) where
+  weight-by : (bs : List Bit) → weightIn s bs ≡ weightBy v bs
+  unfolding weightIn weightBy
+  weight-by [] = refl
+  weight-by (b ∷ bs) =
+      ap (λ (n : ℕ). b .weight * flagNumber (b .if .holds n) + weightIn s bs) (h (b .if .field))
+      ∙ ap (λ (n : ℕ). b .weight * flagNumber (b .if .holds (v (b .if .field))) + n) (weight-by bs)
+
+  status-by : statusCharacters s ≡ statusBy v characters
+  unfolding statusCharacters
+  status-by = go characters
+    where
+      go : (bss : List (List Bit)) → map (λ (bs : List Bit). 0x30 + weightIn s bs) bss ≡ statusBy v bss
+      go [] = refl
+      go (bs ∷ bss) = simp (weight-by bs, go bss)
+
+  codes-by : (cs : List Code) → codesOn cs s ≡ codesBy v cs
+  unfolding codesOn codesBy
+  codes-by [] = refl
+  codes-by (c ∷ cs) =
+      ap (λ (n : ℕ). pick (c .if .holds n) (c .letters ++ (space ∷ [])) [] ++ codesOn cs s) (h (c .if .field))
+      ∙ ap (λ (y : List ℕ). pick (c .if .holds (v (c .if .field))) (c .letters ++ (space ∷ [])) [] ++ y) (codes-by cs)
+
+-- no change names the address
+address-stays : (cs : List Change) (r : Record) → Fitting cs → numberAfter address cs r ≡ get address r
+unfolding numberAfter
+address-stays [] r f = refl
+address-stays (becomes g n ∷ cs) r f = let l = f .1 in simp (ne-eqb (position g) (position address) (λ z. omega arith)) (address-stays cs r (f .3))
+address-stays (nextBatch ∷ cs) r f = address-stays cs r f
 
 -- ---- read-back over two calls: the first an accepted write, the second of either kind with any buffer of 64 bytes or more
 module _ (k k′ : Kind) (r : Record) (q o o′ : List ℕ) (heard : callOf k r q o .silence ≡ 0) (ok : verdict (textIn k q) r ≡ tables.accepted)
@@ -208,8 +231,8 @@ module _ (k k′ : Kind) (r : Record) (q o o′ : List ℕ) (heard : callOf k r 
 
   -- asked so, the second call shows this, with its bytes, and changes nothing
   abbrev pub Shows : List ℕ → List ℕ → Type 0
-  Shows asked shown =
-      callOf k′ next (framed asked) o′ ≡ record { silence = 0; reported = length (framed shown); after = next; buffer = over (framed shown) o′ }
+  Shows question shown =
+      callOf k′ next (framed question) o′ ≡ record { silence = 0; reported = length (framed shown); after = next; buffer = over (framed shown) o′ }
 
   -- the records before and after the write
   valid-before : valid r ≡ true
@@ -218,178 +241,121 @@ module _ (k k′ : Kind) (r : Record) (q o o′ : List ℕ) (heard : callOf k r 
   valid-next : valid next ≡ true
   valid-next = call-keeps-valid k r q o valid-before
 
+  -- the parameter, the number and the changes of the write
+  abbrev parameter : ℕ
+  parameter = valueOf (take 3 (drop 1 (behindCode written)))
+
+  abbrev x : Arguments
+  x = argumentsIn written
+
+  abbrev effect : List Change
+  effect = rowOf (codeIn written) commands .effect x
+
   -- what the write left, field by field
-  left : (cs : List Change) → rowOf (codeIn written) commands .effect written r ≡ cs → (g : Field) → get g next ≡ numberAfter g cs r
-  left cs e g =
-      ap (get g) (is-answered k r q o heard .next-record)
-      ∙ (changes-exactly written r valid-before ok g ∙ ap (λ (x : List Change). numberAfter g x r) e)
+  left-so : (g : Field) → get g next ≡ numberAfter g effect r
+  left-so g = ap (get g) (is-answered k r q o heard .next-record) ∙ changes-exactly written r valid-before ok g
 
-  -- what a read shows, with the address as it was
-  shows-so : (asked was shown : List ℕ) → AnswersAt k′ next o′ (get address next) asked was → get address next ≡ get address r → was ≡ shown → Shows asked shown
-  shows-so asked was shown a e w =
-      let address-so : Shows asked was = subst (λ (n : ℕ). AnswersAt k′ next o′ n asked was) e a in
-      subst (λ (x : List ℕ). Shows asked x) w address-so
+  left : (cs : List Change) → effect ≡ cs → (g : Field) → get g next ≡ numberAfter g cs r
+  left cs e g = left-so g ∙ ap (λ (y : List Change). numberAfter g y r) e
 
-  -- an accepted PC or XC names a parameter
-  placed : of-parameter (codeIn written) ≡ true → (i : ℕ) × (placeOf (parameterIn written) ≡ At i)
-  placed c = go (placeOf (parameterIn written)) refl (simp c at (accepted-by-none written r ok 3 (omega arith)))
+  -- its code stands in the table and its arguments fit
+  sound : Sound (codeIn written) x
+  sound = subst SoundAsked (accepted-asked written r ok) (asked-sound written)
+
+  -- what a read shows; no write changes the address
+  shows-so : (question was shown : List ℕ) → AnswersAt k′ next o′ (get address next) question was → was ≡ shown → Shows question shown
+  shows-so question was shown a w =
+      let address-so : Shows question was = subst (λ (n : ℕ). AnswersAt k′ next o′ n question was) (left-so address ∙ address-stays effect r (accepted-fits written r ok)) a in
+      subst (λ (y : List ℕ). Shows question y) w address-so
+
+  -- ---- EQ and RS after any write: the signs of the fields as it left them
+  pub status-after : Shows (text "EQ") (statusBy (λ g. numberAfter g effect r) characters)
+  status-after = shows-so _ _ _ (status-read k′ next o′ valid-next room) (status-by next (λ g. numberAfter g effect r) left-so)
+
+  pub codes-after : Shows (text "RS") (text "RS " ++ codesBy (λ g. numberAfter g effect r) statusCodes)
+  codes-after =
+      shows-so _ _ _ (codes-read k′ next o′ valid-next room)
+      (ap (λ (y : List ℕ). text "RS " ++ y) (codes-by next (λ g. numberAfter g effect r) left-so statusCodes))
+
+  -- ---- PC and XC name a parameter
+  named-so : (d : ℕ) → codeIn written ≡ d → argumentsFor d (behindCode written) .place ≡ placeFor parameter → of (PV ∷ XV ∷ PC ∷ XC ∷ []) d ≡ true
+      → placeOf parameter ≡ At (x .place)
+  named-so d c e o = go (placeOf parameter) refl
     where
-      go : (x : Place) → placeOf (parameterIn written) ≡ x → isNowhere x ≡ false → (i : ℕ) × (placeOf (parameterIn written) ≡ At i)
-      go (At i) e h = (i, e)
-      go Nothing e h = let z : _≡_ {A = ℕ} 0 1 = cc in absurd (omega arith)
+      here : x .place ≡ placeFor parameter
+      here = ap (λ (y : ℕ). argumentsFor y (behindCode written) .place) c ∙ e
+
+      go : (p : Place) → placeOf parameter ≡ p → p ≡ At (x .place)
+      go (At i) h = ap At (sym (here ∙ ap placeNumber h))
+      go Nothing h =
+          let z : x .place ≡ parameterCount = here ∙ ap placeNumber h in
+          let l = sound .placed (ap (of (PV ∷ XV ∷ PC ∷ XC ∷ [])) c ∙ o) in
+          absurd (omega arith)
 
   -- PC
   module _ (c : codeIn written ≡ PC) where
-    after-value : (g : Field) → get g next ≡ numberAfter g ((value (placeIn written) ≔ secondIn written) ∷ (changed ≔ on) ∷ []) r
+    after-value : (g : Field) → get g next ≡ numberAfter g ((value (x .place) ≔ x .number) ∷ (changed ≔ on) ∷ []) r
     unfolding rowOf
-    after-value = left ((value (placeIn written) ≔ secondIn written) ∷ (changed ≔ on) ∷ []) (simp c)
+    after-value = left ((value (x .place) ≔ x .number) ∷ (changed ≔ on) ∷ []) (ap (λ (d : ℕ). rowOf d commands .effect x) c)
 
-    other-value : (g : Field) → (position (value (placeIn written)) ≡ position g → ⊥) → get g next ≡ numberAfter g ((changed ≔ on) ∷ []) r
-    other-value g h = after-value g ∙ skipped (value (placeIn written)) g (secondIn written) ((changed ≔ on) ∷ []) r h
+    new-value : get (value (x .place)) next ≡ x .number
+    new-value = after-value (value (x .place)) ∙ shown-first (value (x .place)) (x .number) ((changed ≔ on) ∷ []) r
 
-    new-value : get (value (placeIn written)) next ≡ secondIn written
-    new-value = after-value (value (placeIn written)) ∙ shown-first (value (placeIn written)) (secondIn written) ((changed ≔ on) ∷ []) r
+    pub value-after-value : Shows (text "PV " ++ digits 3 parameter) (parameterShown (text "PV ") parameter 8 (x .number))
+    unfolding rowOf
+    value-after-value =
+        shows-so _ _ _ (value-read k′ next o′ valid-next room parameter (x .place) (named-so PC c refl refl))
+        (ap (λ (n : ℕ). parameterShown (text "PV ") parameter 8 n) new-value)
 
-    value-address : get address next ≡ get address r
+    pub composition-after-value : x .place ≡ factorPlace (get recipe r) → Shows (text "RC") (composed (get recipe r) (x .number))
     unfolding numberAfter
-    value-address = other-value address (λ z. omega arith)
-
-  pub value-after-value : codeIn written ≡ PC
-      → Shows (spaced (text "PV" ∷ digits 3 (parameterIn written) ∷ [])) (spaced (text "PV" ∷ digits 3 (parameterIn written) ∷ digits 8 (secondIn written) ∷ []))
-  unfolding placeIn
-  value-after-value c =
-      let (i, e) = placed (ap of-parameter c) in
-      shows-so _ _ _ (value-read k′ next o′ valid-next room (parameterIn written) i e) (value-address c)
-      (ap (λ (n : ℕ). spaced (text "PV" ∷ digits 3 (parameterIn written) ∷ digits 8 n ∷ [])) (new-value c))
-
-  pub composition-after-value : codeIn written ≡ PC → placeIn written ≡ factorPlace (get recipe r)
-      → Shows (text "RC") (spaced (text "RC" ∷ digits 2 (get recipe r) ∷ digits 8 (secondIn written) ∷ []))
-  unfolding numberAfter
-  composition-after-value c e =
-      let same : get recipe next ≡ get recipe r = other-value c recipe (λ z. omega arith) in
-      let factor : get (value (factorPlace (get recipe next))) next ≡ secondIn written =
-      ap (λ (n : ℕ). get (value (factorPlace n)) next) same ∙ (ap (λ (i : ℕ). get (value i) next) (sym e) ∙ new-value c) in
-      shows-so _ _ _ (composition-read k′ next o′ valid-next room) (value-address c) (composition-same _ _ _ _ same factor)
-
-  -- NR
-  after-recipe : codeIn written ≡ NR → (g : Field) → get g next ≡ numberAfter g ((recipe ≔ numberIn written) ∷ []) r
-  unfolding rowOf
-  after-recipe c = left ((recipe ≔ numberIn written) ∷ []) (simp c)
-
-  pub recipe-after-recipe : codeIn written ≡ NR → Shows (text "RR") (spaced (text "RR" ∷ digits 2 (numberIn written) ∷ []))
-  unfolding numberAfter
-  recipe-after-recipe c =
-      shows-so _ _ _ (recipe-read k′ next o′ valid-next room) (after-recipe c address)
-      (ap (λ (n : ℕ). spaced (text "RR" ∷ digits 2 n ∷ [])) (after-recipe c recipe))
-
-  pub composition-after-recipe : codeIn written ≡ NR
-      → Shows (text "RC") (spaced (text "RC" ∷ digits 2 (numberIn written) ∷ digits 8 (get (value (factorPlace (numberIn written))) r) ∷ []))
-  unfolding numberAfter
-  composition-after-recipe c =
-      let new : get recipe next ≡ numberIn written = after-recipe c recipe in
-      let f : Field = value (factorPlace (numberIn written)) in
-      let factor : get (value (factorPlace (get recipe next))) next ≡ get f r =
-      ap (λ (n : ℕ). get (value (factorPlace n)) next) new ∙ (after-recipe c f ∙ skipped recipe f (numberIn written) [] r (λ z. omega arith)) in
-      shows-so _ _ _ (composition-read k′ next o′ valid-next room) (after-recipe c address) (composition-same _ _ _ _ new factor)
+    composition-after-value e =
+        let same : get recipe next ≡ get recipe r =
+        after-value recipe ∙ skipped (value (x .place)) recipe (x .number) ((changed ≔ on) ∷ []) r (λ z. omega arith) in
+        let factor : get (value (factorPlace (get recipe next))) next ≡ x .number =
+        ap (λ (n : ℕ). get (value (factorPlace n)) next) same ∙ (ap (λ (i : ℕ). get (value i) next) (sym e) ∙ new-value) in
+        shows-so _ _ _ (composition-read k′ next o′ valid-next room) (composition-same _ _ _ _ same factor)
 
   -- XC
-  after-level : codeIn written ≡ XC → (g : Field) → get g next ≡ numberAfter g ((level (placeIn written) ≔ secondIn written) ∷ []) r
-  unfolding rowOf
-  after-level c = left ((level (placeIn written) ≔ secondIn written) ∷ []) (simp c)
+  module _ (c : codeIn written ≡ XC) where
+    pub level-after-level : Shows (text "XV " ++ digits 3 parameter) (parameterShown (text "XV ") parameter 1 (x .number))
+    unfolding rowOf
+    level-after-level =
+        shows-so _ _ _ (level-read k′ next o′ valid-next room parameter (x .place) (named-so XC c refl refl))
+        (ap (λ (n : ℕ). parameterShown (text "XV ") parameter 1 n)
+        (left ((level (x .place) ≔ x .number) ∷ []) (ap (λ (d : ℕ). rowOf d commands .effect x) c) (level (x .place)) ∙ shown-first (level (x .place)) (x .number) [] r))
 
-  pub level-after-level : codeIn written ≡ XC
-      → Shows (spaced (text "XV" ∷ digits 3 (parameterIn written) ∷ [])) (spaced (text "XV" ∷ digits 3 (parameterIn written) ∷ digits 1 (secondIn written) ∷ []))
-  unfolding placeIn numberAfter
-  level-after-level c =
-      let (i, e) = placed (ap of-parameter c) in
-      shows-so _ _ _ (level-read k′ next o′ valid-next room (parameterIn written) i e)
-      (after-level c address ∙ skipped (level (placeIn written)) address (secondIn written) [] r (λ z. omega arith))
-      (ap (λ (n : ℕ). spaced (text "XV" ∷ digits 3 (parameterIn written) ∷ digits 1 n ∷ []))
-      (after-level c (level (placeIn written)) ∙ shown-first (level (placeIn written)) (secondIn written) [] r))
+  -- NR
+  module _ (c : codeIn written ≡ NR) where
+    after-recipe : (g : Field) → get g next ≡ numberAfter g ((recipe ≔ x .number) ∷ []) r
+    unfolding rowOf
+    after-recipe = left ((recipe ≔ x .number) ∷ []) (ap (λ (d : ℕ). rowOf d commands .effect x) c)
+
+    new-recipe : get recipe next ≡ x .number
+    new-recipe = after-recipe recipe ∙ shown-first recipe (x .number) [] r
+
+    pub recipe-after-recipe : Shows (text "RR") (text "RR " ++ digits 2 (x .number))
+    recipe-after-recipe = shows-so _ _ _ (recipe-read k′ next o′ valid-next room) (ap (λ (n : ℕ). text "RR " ++ digits 2 n) new-recipe)
+
+    pub composition-after-recipe : Shows (text "RC") (composed (x .number) (get (value (factorPlace (x .number))) r))
+    unfolding numberAfter
+    composition-after-recipe =
+        let f : Field = value (factorPlace (x .number)) in
+        let factor : get (value (factorPlace (get recipe next))) next ≡ get f r =
+        ap (λ (n : ℕ). get (value (factorPlace n)) next) new-recipe ∙ (after-recipe f ∙ skipped recipe f (x .number) [] r (λ z. omega arith)) in
+        shows-so _ _ _ (composition-read k′ next o′ valid-next room) (composition-same _ _ _ _ new-recipe factor)
 
   -- SB
-  after-batch : codeIn written ≡ SB → (g : Field)
-      → get g next ≡ numberAfter g ((phase ≔ set) ∷ (preset ≔ numberIn written) ∷ (raw ≔ 0) ∷ (reset ≔ on) ∷ (number ≔ nextNumber (get number r)) ∷ []) r
-  unfolding rowOf
-  after-batch c = left ((phase ≔ set) ∷ (preset ≔ numberIn written) ∷ (raw ≔ 0) ∷ (reset ≔ on) ∷ (number ≔ nextNumber (get number r)) ∷ []) (simp c)
+  module _ (c : codeIn written ≡ SB) where
+    after-batch : (g : Field) → get g next ≡ numberAfter g ((phase ≔ set) ∷ (preset ≔ x .number) ∷ (raw ≔ 0) ∷ (reset ≔ on) ∷ nextBatch ∷ []) r
+    unfolding rowOf
+    after-batch = left ((phase ≔ set) ∷ (preset ≔ x .number) ∷ (raw ≔ 0) ∷ (reset ≔ on) ∷ nextBatch ∷ []) (ap (λ (d : ℕ). rowOf d commands .effect x) c)
 
-  -- SB takes 9999 to 1
-  pub number-after-batch : codeIn written ≡ SB → Shows (text "TN") (spaced (text "TN" ∷ digits 4 (nextNumber (get number r)) ∷ []))
-  unfolding numberAfter
-  number-after-batch c =
-      shows-so _ _ _ (number-read k′ next o′ valid-next room) (after-batch c address)
-      (ap (λ (n : ℕ). spaced (text "TN" ∷ digits 4 n ∷ [])) (after-batch c number))
+    -- 9999 goes to 1
+    pub number-after-batch : Shows (text "TN") (text "TN " ++ digits 4 (nextNumber (get number r)))
+    unfolding numberAfter
+    number-after-batch = shows-so _ _ _ (number-read k′ next o′ valid-next room) (ap (λ (n : ℕ). text "TN " ++ digits 4 n) (after-batch number))
 
-  pub raw-after-batch : codeIn written ≡ SB → Shows (spaced (text "RT" ∷ text "R" ∷ [])) (spaced (text "RT" ∷ text "R" ∷ digits 8 0 ∷ []))
-  unfolding numberAfter
-  raw-after-batch c =
-      shows-so _ _ _ (raw-read k′ next o′ valid-next room) (after-batch c address)
-      (ap (λ (n : ℕ). spaced (text "RT" ∷ text "R" ∷ digits 8 n ∷ [])) (after-batch c raw))
-
-  -- EQ and RS after a write, with the phase and the two flags that it leaves
-  abbrev pub StatusShows : ℕ → ℕ → ℕ → Type 0
-  StatusShows p c b =
-      Shows (text "EQ") (statusFrom p (get keypad r) (get flow r) c b (get powerfail r))
-      × Shows (text "RS") (text "RS" ++ (space ∷ codesFrom p (get keypad r) (get flow r) c b (get powerfail r)))
-
-  -- by the six fields that they show
-  status-so : (p c b : ℕ) → get address next ≡ get address r → get phase next ≡ p → get keypad next ≡ get keypad r → get flow next ≡ get flow r
-      → get changed next ≡ c → get reset next ≡ b → get powerfail next ≡ get powerfail r → StatusShows p c b
-  unfolding statusCharacters codesOn
-  status-so p c b e f₁ f₂ f₃ f₄ f₅ f₆ = (
-    shows-so _ _ _ (status-read k′ next o′ valid-next room) e (by-fields statusFrom f₁ f₂ f₃ f₄ f₅ f₆),
-    shows-so _ _ _ (codes-read k′ next o′ valid-next room) e
-        (ap (λ (x : List ℕ). text "RS" ++ (space ∷ x)) (by-fields codesFrom f₁ f₂ f₃ f₄ f₅ f₆)),
-  )
-    where
-      by-fields : (F : ℕ → ℕ → ℕ → ℕ → ℕ → ℕ → List ℕ) {a₁ a₂ a₃ a₄ a₅ a₆ b₁ b₂ b₃ b₄ b₅ b₆ : ℕ} → a₁ ≡ b₁ → a₂ ≡ b₂ → a₃ ≡ b₃ → a₄ ≡ b₄ → a₅ ≡ b₅ → a₆ ≡ b₆
-          → F a₁ a₂ a₃ a₄ a₅ a₆ ≡ F b₁ b₂ b₃ b₄ b₅ b₆
-      by-fields F f₁ f₂ f₃ f₄ f₅ f₆ = cc
-
-  pub status-after-batch : codeIn written ≡ SB → StatusShows set (get changed r) on
-  unfolding numberAfter
-  status-after-batch c =
-      let at = after-batch c in status-so set (get changed r) on (at address) (at phase) (at keypad) (at flow) (at changed) (at reset) (at powerfail)
-
-  pub status-after-value : codeIn written ≡ PC → StatusShows (get phase r) on (get reset r)
-  unfolding numberAfter
-  status-after-value c =
-      status-so (get phase r) on (get reset r) (value-address c) (other-value c phase (λ z. omega arith)) (other-value c keypad (λ z. omega arith))
-      (other-value c flow (λ z. omega arith)) (other-value c changed (λ z. omega arith)) (other-value c reset (λ z. omega arith))
-      (other-value c powerfail (λ z. omega arith))
-
-  -- one change of the phase
-  phase-so : (p : ℕ) → rowOf (codeIn written) commands .effect written r ≡ ((phase ≔ p) ∷ []) → StatusShows p (get changed r) (get reset r)
-  unfolding numberAfter
-  phase-so p e =
-      let at = left ((phase ≔ p) ∷ []) e in
-      status-so p (get changed r) (get reset r) (at address) (at phase) (at keypad) (at flow) (at changed) (at reset) (at powerfail)
-
-  pub status-after-start : codeIn written ≡ SA → StatusShows running (get changed r) (get reset r)
-  unfolding rowOf
-  status-after-start c = phase-so running (simp c)
-
-  pub status-after-stop : codeIn written ≡ SP → StatusShows stopped (get changed r) (get reset r)
-  unfolding rowOf
-  status-after-stop c = phase-so stopped (simp c)
-
-  pub status-after-end : codeIn written ≡ ET → StatusShows idle (get changed r) (get reset r)
-  unfolding rowOf
-  status-after-end c = phase-so idle (simp c)
-
-  -- RE
-  after-clear : codeIn written ≡ RE → (f : Field) → flagNamed written ≡ f → (g : Field) → get g next ≡ numberAfter g ((f ≔ off) ∷ []) r
-  unfolding rowOf
-  after-clear c f e = left ((f ≔ off) ∷ []) (simp c (ap (λ (x : Field). (x ≔ off) ∷ []) e))
-
-  pub status-after-clear-reset : codeIn written ≡ RE → flagNamed written ≡ reset → StatusShows (get phase r) (get changed r) off
-  unfolding numberAfter
-  status-after-clear-reset c f =
-      let at = after-clear c reset f in
-      status-so (get phase r) (get changed r) off (at address) (at phase) (at keypad) (at flow) (at changed) (at reset) (at powerfail)
-
-  pub status-after-clear-changed : codeIn written ≡ RE → flagNamed written ≡ changed → StatusShows (get phase r) off (get reset r)
-  unfolding numberAfter
-  status-after-clear-changed c f =
-      let at = after-clear c changed f in
-      status-so (get phase r) off (get reset r) (at address) (at phase) (at keypad) (at flow) (at changed) (at reset) (at powerfail)
+    pub raw-after-batch : Shows (text "RT R") (text "RT R " ++ digits 8 0)
+    unfolding numberAfter
+    raw-after-batch = shows-so _ _ _ (raw-read k′ next o′ valid-next room) (ap (λ (n : ℕ). text "RT R " ++ digits 8 n) (after-batch raw))

@@ -9,16 +9,15 @@ use lib.Bits.{bitXor}
 use Rattle.base.specs.Test.{allBetween}
 use Rattle.base.specs.Text.{text}
 use Rattle.state.specs.declared.Record.{Record}
-use Rattle.state.specs.Parameter.{placeIn, placeOf, rangeAt}
+use Rattle.state.specs.Parameter.{codeAt, placeIn, placeOf, rangeAt}
 use Rattle.state.specs.Field.{phaseOf, put}
 use Rattle.state.specs.Valid.{allIn, valid}
 use Rattle.frame.specs.declared.Kind.the-variants.{Minicomputer}
 use Rattle.frame.specs.Frame.{namesUnit, addressIn, xorFrom, frameOf, textIn, withinLimits, marksRight, checkRight}
 use Rattle.base.specs.Lists.{over}
-use Rattle.command.specs.Word.{digits, valueFrom, equal}
-use Rattle.command.specs.Status.{statusCharacters, codesOn}
-use Rattle.command.specs.Commands as commands
-use Rattle.command.specs.Commands.{codeIn, digitsBetween, formed, parameterIn, numberIn, secondIn, applied, rowOf}
+use Rattle.text.specs.Word.{digits, valueFrom, equal}
+use Rattle.command.specs.Status.{weightIn, statusCharacters, codesOn}
+use Rattle.command.specs.Commands.{codeIn, digitsBetween, formed, applied, rowOf}
 use Rattle.command.specs.Answer.{firstOf, verdict, replyText, recordAfter}
 use Rattle.command.specs.Bench.{bench}
 use Rattle.controller.specs.Call.{Outcome, callOf}
@@ -90,5 +89,5 @@ replies r [] = []
 replies r (q ∷ qs) = heard (called r q) ∷ replies (called r q .after) qs
 
 pub worked : replies bench (map (λ s. s .request) table) ≡ map (λ s. (length (s .reply), s .reply)) table
-unfolding replies check bench callOf valid allIn rangeAt placeOf placeIn withinLimits marksRight checkRight xorFrom textIn allBetween namesUnit addressIn frameOf over replyText recordAfter verdict firstOf codeIn formed digitsBetween valueFrom equal parameterIn commands.placeIn numberIn secondIn rowOf digits statusCharacters codesOn applied put phaseOf
+unfolding replies check bench callOf valid allIn rangeAt placeOf placeIn withinLimits marksRight checkRight xorFrom textIn allBetween namesUnit addressIn frameOf over replyText recordAfter verdict firstOf codeIn formed digitsBetween valueFrom equal rowOf digits weightIn statusCharacters codesOn codeAt applied put phaseOf
 worked = refl

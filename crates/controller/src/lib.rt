@@ -28,9 +28,9 @@ fn answered(kind: Kind, before: Record, text: &[u8], out: &mut [u8]) -> Called
 {
     let request = command::parse(text);
     let served = command::serve(before, request);
-    let decision = served.decision;
+    let answer = served.answer;
     let after = served.after;
-    let n = reply::write(before, request, decision, &mut out[1..]);
+    let n = reply::write(before, answer, &mut out[1..]);
     let length = frame::enclose(kind, n, out).length();
     Called {
         answer: Answer::Reply(length),

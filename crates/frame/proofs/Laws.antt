@@ -4,11 +4,10 @@ use mathlib.Core.List.{List, [], _∷_, _++_, append-nil}
 use mathlib.Core.Bool.{Bool, true, false, _&&_}
 use Prim.Native.Nat.{ℕ, suc, _+_, _-_, _≤_, _<_}
 use native.Mathlib.Nat.{not-suc-le-zero}
-use native.Mathlib.Numerals.{add-one}
 use native.Mathlib.Omega.{arith}
 use lib.Dec.{leb, eqb}
 use lib.ListN.{length, take, drop, getD, length-append, length-drop, length-take}
-use lib.Seq.{drop-cons, drop-length, getD-drop, getD-take, length-take-le, take-at, take-length}
+use lib.Seq.{drop-length, getD-drop, getD-take, length-take-le, take-at, take-length}
 use borrow.Rule.Slice.PartMut.{putMid}
 use borrow.Author.Tests.{le-leb, leb-true, eqb-true}
 use Rattle.frame.specs.declared.Kind.{Kind}
@@ -24,10 +23,6 @@ use Rattle.base.specs.Test.{between, unless}
 use Rattle.frame.specs.Numbers.{Answer, H, S, accepted, unit, builtAs, locatedAs, addressedAs}
 use Rattle.frame.specs.Answer.{copied, addressed, buildOf, locateOf, readOf, addressOf}
 use Rattle.base.specs.Lists.{over}
-
--- ---- the bytes from i on: one, and those after it
-pub next : (s : List ℕ) (i : ℕ) → i < length s → drop i s ≡ getD s i 0 ∷ drop (i + 1) s
-next s i h = rw (add-one, drop-cons s i 0)
 
 -- ---- the text that a buffer holds from its second byte on
 pub held-length : (n : ℕ) (o : List ℕ) → n < length o → length (take n (drop 1 o)) ≡ n

@@ -16,8 +16,8 @@ use Rattle.frame.specs.Frame.{etx, pad, cr, lf, allText, xorFrom, checkO
 use Rattle.frame.specs.Numbers.{accepted}
 use Rattle.frame.specs.Answer.{buildOf, locateOf, readOf}
 use Rattle.base.specs.Lists.{over}
-use Rattle.base.proofs.Lists.{over-take}
-use Rattle.frame.proofs.Laws.{next, frame-length, firstMark, endMark, lastMark, marks-form, marks-told, limits-low, limits-within, tail-low, Found, found, found-sizes, found-located, Framed, framed, framed-built, Taken, taken, taken-read}
+use Rattle.base.proofs.Lists.{next, over-take}
+use Rattle.frame.proofs.Laws.{frame-length, firstMark, endMark, lastMark, marks-form, marks-told, limits-low, limits-within, tail-low, Found, found, found-sizes, found-located, Framed, framed, framed-built, Taken, taken, taken-read}
 
 -- ---- the form of a frame
 

@@ -22,8 +22,8 @@ use Rattle.frame.specs.Frame.{stx, etx, pad, star, cr, lf, isDigit, isCa
 use Rattle.frame.specs.Numbers.{H, S, accepted, unit, silenceNumber, locatedAs}
 use Rattle.frame.specs.Answer.{buildOf, locateOf, readOf, addressOf}
 use Rattle.base.specs.Lists.{over}
-use Rattle.base.proofs.Lists.{over-put, over-over}
-use Rattle.frame.proofs.Laws.{next, held-length, held-byte, over-held, part-back, frame-length, firstMark, endMark, lastMark, marks-form, limits-low, tail-low, text-length, Digits, named-digits, Sizes, found-sizes, found-text, located-found, framed-built, taken-read, named-addressed}
+use Rattle.base.proofs.Lists.{next, over-put, over-over}
+use Rattle.frame.proofs.Laws.{held-length, held-byte, over-held, part-back, frame-length, firstMark, endMark, lastMark, marks-form, limits-low, tail-low, text-length, Digits, named-digits, Sizes, found-sizes, found-text, located-found, framed-built, taken-read, named-addressed}
 
 -- ---- the loop of `check`
 pub xor-again : (s : List ℕ) (a b i : ℕ) → i < length s → xorFrom a (drop i s) ≡ b → xorFrom (bitXor a (getD s i 0)) (drop (i + 1) s) ≡ b

@@ -260,7 +260,7 @@ fn marks(kind: Kind, frame: &[u8]) -> bool
 }
 
 // The check is right; a terminal frame has none.
-fn sum(kind: Kind, frame: &[u8]) -> bool
+fn check_right(kind: Kind, frame: &[u8]) -> bool
     requires { ⌜ 7 ≤ length (now frame) ⌝ }
     ensures { λ r. ⌜ r ≡ checkRight kind (now (frame .entry)) ⌝ }
 {
@@ -284,7 +284,7 @@ pub fn locate(kind: Kind, frame: &[u8]) -> Located
     if !marks(kind, frame) {
         return Located::Silent(Silence::Mark);
     }
-    if !sum(kind, frame) {
+    if !check_right(kind, frame) {
         return Located::Silent(Silence::Check);
     }
     let end = n - tail(kind);

@@ -23,11 +23,11 @@ use Rattle.frame.specs.Answer.{locateOf, readOf, addressOf}
 use Rattle.base.proofs.Lists.{over-take}
 use Rattle.frame.proofs.Laws.{found, found-located, Taken, taken, Named, named, named-addressed}
 use Rattle.frame.proofs.RoundTrip.{reframed}
-use Rattle.command.specs.Word.{digits}
+use Rattle.text.specs.Word.{digits}
 use Rattle.command.specs.Answer.{verdict, replyFor, replyText, recordAfter}
-use Rattle.command.specs.Request.{requestOf, verdictFor, replyTo, recordTo}
-use Rattle.command.proofs.Agree.{reply-by-steps, record-by-steps}
-use Rattle.command.proofs.Parsing.{digits-length}
+use Rattle.command.specs.Request.{askedIn, answerText, servedOf}
+use Rattle.command.proofs.Agree.{answer-by-steps, record-by-steps}
+use Rattle.text.proofs.Words.{digits-length}
 use Rattle.controller.specs.Call.{Outcome, silent, replied, callOf}
 use Rattle.controller.proofs.Theorems.{host-reads}
 use Rattle.recording.specs.Form.{Exchange}
@@ -48,10 +48,10 @@ heard e = textIn Minicomputer (e .reply)
 
 -- what the code's steps reply to the request, behind the address digits, and the record that they leave
 abbrev pub stepReply : Exchange → Record → List ℕ
-stepReply e r = replyTo (verdictFor (requestOf (asked e)) r) (requestOf (asked e)) r
+stepReply e r = answerText (servedOf (askedIn (asked e)) r .0) r
 
 abbrev pub stepRecord : Exchange → Record → Record
-stepRecord e r = recordTo (verdictFor (requestOf (asked e)) r) (requestOf (asked e)) r
+stepRecord e r = servedOf (askedIn (asked e)) r .1
 
 -- the reply is a frame whose text begins with the digits of a
 pub record FromUnit (a : ℕ) (e : Exchange) : Type 0 where
@@ -152,7 +152,7 @@ module _ (a : ℕ) (r : Record) (e : Exchange) (own : get address r ≡ a) where
     unfolding replyText
     text-parts =
         ap (λ (i : ℕ). digits 2 i ++ replyFor (verdict (asked e) r) (asked e) r) own
-        ∙ ap (λ (xs : List ℕ). digits 2 a ++ xs) (sym (reply-by-steps (asked e) r))
+        ∙ ap (λ (xs : List ℕ). digits 2 a ++ xs) (sym (answer-by-steps (asked e) r))
 
     pub reply-exactly : Agrees r e ↔ FromUnit a e × (stepReply e r ≡ drop 2 (heard e))
     reply-exactly = (told, agrees)

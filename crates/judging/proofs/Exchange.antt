@@ -21,8 +21,8 @@ use Rattle.frame.specs.Answer.{locateOf, addressOf}
 use Rattle.frame.proofs.Laws.{Found, found-text, located-found, addressed-named}
 use Rattle.frame.proofs.Steps.{located-sizes}
 use Rattle.command.specs.declared.Request.{Request}
-use Rattle.command.specs.Word.{digits, equal}
-use Rattle.command.specs.Request.{requestOf}
+use Rattle.text.specs.Word.{digits, equal}
+use Rattle.command.specs.Request.{Asked, askedIn, requestAs}
 use Rattle.controller.proofs.Steps.{text-within}
 use Rattle.knowledge.specs.declared.Knowledge.{Knowledge}
 use Rattle.knowledge.specs.Knowledge.{dead}
@@ -52,12 +52,12 @@ module _ (a c : ℕ) (t u : List ℕ) (k r : Knowledge) (b : Bool) (e : b ≡ eq
   unfolding textLearnt
   text-other h w = w ∙ simp (same-digits, not-true b h)
 
-  pub text-learnt : (q : Request) → not b ≡ false → q ≡ requestOf t → r ≡ learnOf c q (take (length u - 2) (drop 2 u)) k → r ≡ textLearnt a c t u k
+  pub text-learnt : (q : Request) → not b ≡ false → requestAs q ≡ askedIn t → r ≡ learnOf c (requestAs q) (take (length u - 2) (drop 2 u)) k → r ≡ textLearnt a c t u k
   unfolding textLearnt
   text-learnt q h p w =
       let rest : take (length u - 2) (drop 2 u) ≡ drop 2 u = take-all (length u - 2) (drop 2 u) (omega (arith, length-drop 2 u)) in
-      w ∙ ap (λ (x : Request). learnOf c x (take (length u - 2) (drop 2 u)) k) p
-      ∙ ap (λ (x : List ℕ). learnOf c (requestOf t) x k) rest
+      w ∙ ap (λ (x : Asked). learnOf c x (take (length u - 2) (drop 2 u)) k) p
+      ∙ ap (λ (x : List ℕ). learnOf c (askedIn t) x k) rest
       ∙ sym (simp (same-digits, not-false b h))
 
 pub ruleset text-learning = (text-other, text-learnt)

@@ -19,7 +19,7 @@ use Rattle.recording.specs.declared.Next.the-variants as next
 use Rattle.recording.specs.declared.Refusal.{Refusal}
 use Rattle.recording.specs.declared.Read.{Read}
 use Rattle.recording.specs.declared.Read.the-variants as read
-use Rattle.recording.specs.Form.{Exchange, Exchanges, whole, cut, before, exchangesIn, Recording, J, recorded, withHeader, recordingOf, exchangeAt, J-number, counted, summary, refusalNumber, readAs}
+use Rattle.recording.specs.Form.{Exchange, Exchanges, whole, cut, before, exchangesIn, Recording, J, recorded, headerWidth, withHeader, recordingOf, exchangeAt, J-number, counted, summary, refusalNumber, readAs}
 use Rattle.recording.specs.Replay.{fits, refuted}
 use Rattle.recording.specs.Statement.{Judgement, refused, judged}
 use Rattle.recording.specs.Progress.{passed, answerFrom, answerOf}
@@ -62,9 +62,9 @@ module _ (a c : ℕ) where
 
 -- ---- a well-formed recording
 record Formed (s : List ℕ) (a c n : ℕ) : Type 0 where
-  long : 5 ≤ length s
+  long : headerWidth ≤ length s
   held : List Exchange
-  from : exchangesIn (length s) (drop 5 s) ≡ whole held
+  from : exchangesIn (length s) (drop headerWidth s) ≡ whole held
   size : length held ≡ n
   same : recordingOf s ≡ recorded a c held
 
@@ -89,10 +89,10 @@ module _ (a c n : ℕ) where
 formed : (s : List ℕ) (a c n : ℕ) → summary (recordingOf s) ≡ counted a c n → Formed s a c n
 unfolding recordingOf
 formed s a c n e =
-    let x : Recording = withHeader (getD s 3 0) (getD s 4 0) (exchangesIn (length s) (drop 5 s)) in
+    let x : Recording = withHeader (getD s 3 0) (getD s 4 0) (exchangesIn (length s) (drop headerWidth s)) in
     let t = tested a c n (between 5 65535 (length s)) (eqb (getD s 0 0) 1) (eqb (getD s 1 0 * 256 + getD s 2 0) (length s))
     (valid.within (fieldRange address) (getD s 3 0) && valid.within (fieldRange access) (getD s 4 0)) x e in
-    let h = headed a c n (getD s 3 0) (getD s 4 0) (exchangesIn (length s) (drop 5 s)) (t .2) in
+    let h = headed a c n (getD s 3 0) (getD s 4 0) (exchangesIn (length s) (drop headerWidth s)) (t .2) in
     record {
       long = between-low 5 65535 (length s) (t .0);
       held = h .0;

@@ -18,11 +18,10 @@ use Rattle.frame.specs.declared.Kind.the-variants.{Minicomputer}
 use Rattle.frame.specs.Numbers as frame
 use Rattle.frame.specs.Numbers.{H, S, accepted, unit}
 use Rattle.frame.specs.Answer.{locateOf, addressOf}
-use Rattle.command.specs.declared.Request.{Request}
-use Rattle.command.specs.Word.{digits, equal}
-use Rattle.command.specs.Request.{requestOf}
-use Rattle.command.proofs.Fits.{asked-bounded}
-use Rattle.command.proofs.Parsing.{equal-true, equal-same}
+use Rattle.text.specs.Word.{digits, equal}
+use Rattle.command.specs.Request.{Asked, askedIn}
+use Rattle.command.proofs.Fits.{asked-sound}
+use Rattle.text.proofs.Words.{equal-true, equal-same}
 use Rattle.knowledge.specs.declared.Knowledge.{Knowledge}
 use Rattle.knowledge.specs.Knowledge.{dead, start}
 use Rattle.knowledge.proofs.Possible.{Possible, Kept}
@@ -56,7 +55,7 @@ module _ (a c : ℕ) (k : Knowledge) (e : Exchange) where
   Refuting = (r : Record) → valid r ≡ true → get address r ≡ a → Agrees r e → ⊥
 
   module _ (P : Knowledge → Type 0) (stays : Other → e .reply ≡ [] → P k)
-      (learns : (n : ℕ) → Names n → FromUnit a e → P (learnOf c (requestOf (asked e)) (drop 2 (heard e)) k)) (ends : Refuting → P (dead k)) where
+      (learns : (n : ℕ) → Names n → FromUnit a e → P (learnOf c (askedIn (asked e)) (drop 2 (heard e)) k)) (ends : Refuting → P (dead k)) where
     by-silence : Other → P (silenceKept (e .reply) k)
     unfolding silenceKept
     by-silence other = go (e .reply) refl
@@ -74,7 +73,7 @@ module _ (a c : ℕ) (k : Knowledge) (e : Exchange) where
         refused y q clash = ends (λ r v own g. let f = reply-exactly a r e own v n h .0 g .0 in clash (f .size) (sym (f .located) ∙ q))
 
         text : (m : ℕ) → locateOf Minicomputer (e .reply) ≡ accepted m → (b : Bool) → equal (take 2 (heard e)) (digits 2 a) ≡ b
-            → P (unless b (dead k) (learnOf c (requestOf (asked e)) (drop 2 (heard e)) k))
+            → P (unless b (dead k) (learnOf c (askedIn (asked e)) (drop 2 (heard e)) k))
         text m q true d = learns n h record { size = m; located = q; named = equal-true (take 2 (heard e)) (digits 2 a) d }
         text m q false d =
             ends (λ r v own g.
@@ -118,12 +117,12 @@ module _ (a c : ℕ) (in-address : within (fieldRange address) a ≡ true) (in-a
   onward : (k : Knowledge) (e : Exchange) (r : Record) → Kept a c k → Possible k r → Agrees r e → Possible (exchangeLearnt a c k e) (next r e)
   onward k e r kept t g =
       let own : get address r ≡ a = own-address k r kept in-address t in
-      let q : Request = requestOf (asked e) in
+      let q : Asked = askedIn (asked e) in
       let b : List ℕ = drop 2 (heard e) in
       by-exchange a c k e (λ x. Possible x (next r e)) (λ other i. subst (Possible k) (sym (silence-after a r e own other)) t)
       (λ n h f.
       subst (Possible (learnOf c q b k)) (sym (reply-after a r e own (t .sound) n h))
-      (learn-onward q b k r kept in-access (asked-bounded (asked e)) t (reply-exactly a r e own (t .sound) n h .0 g .1)))
+      (learn-onward q b k r kept in-access (asked-sound (asked e)) t (reply-exactly a r e own (t .sound) n h .0 g .1)))
       (λ none. absurd (none r (t .sound) own g))
 
   back : (k : Knowledge) (e : Exchange) (s : Record) → Kept a c k → Possible (exchangeLearnt a c k e) s
@@ -132,7 +131,7 @@ module _ (a c : ℕ) (in-address : within (fieldRange address) a ≡ true) (in-a
       by-exchange a c k e (λ x. Possible x s → (r : Record) × Possible k r × Agrees r e × (next r e ≡ s))
       (λ other i t. let own = own-address k s kept in-address t in (s, t, silence-exactly a s e own other .1 i, silence-after a s e own other))
       (λ n h f t.
-      let (r, p, said, after) = learn-back (requestOf (asked e)) (drop 2 (heard e)) k s kept in-access (asked-bounded (asked e)) t in
+      let (r, p, said, after) = learn-back (askedIn (asked e)) (drop 2 (heard e)) k s kept in-access (asked-sound (asked e)) t in
       let own = own-address k r kept in-address p in
       (r, p, reply-exactly a r e own (p .sound) n h .1 (f, said), reply-after a r e own (p .sound) n h ∙ after))
       (λ none t. absurd (dead-none k s t))
@@ -140,7 +139,7 @@ module _ (a c : ℕ) (in-address : within (fieldRange address) a ≡ true) (in-a
   keeps : (k : Knowledge) (e : Exchange) → Kept a c k → Kept a c (exchangeLearnt a c k e)
   keeps k e kept =
       by-exchange a c k e (Kept a c) (λ other i. kept)
-      (λ n h f. learn-kept (requestOf (asked e)) (drop 2 (heard e)) k kept (asked-bounded (asked e))) (λ none. dead-kept k kept)
+      (λ n h f. learn-kept (askedIn (asked e)) (drop 2 (heard e)) k kept (asked-sound (asked e))) (λ none. dead-kept k kept)
 
   pub exact : Exactly next Agrees (Kept a c) Possible (exchangeLearnt a c) living
   exact =

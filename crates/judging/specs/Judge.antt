@@ -10,9 +10,9 @@ use Rattle.frame.specs.declared.Kind.the-variants.{Minicomputer}
 use Rattle.frame.specs.Frame.{textIn}
 use Rattle.frame.specs.Numbers.{Answer, H, S, accepted, unit}
 use Rattle.frame.specs.Answer.{locateOf, addressOf}
-use Rattle.command.specs.Word.{digits, equal}
+use Rattle.text.specs.Word.{digits, equal}
 use Rattle.command.specs.Commands.{isEmpty}
-use Rattle.command.specs.Request.{requestOf}
+use Rattle.command.specs.Request.{askedIn}
 use Rattle.knowledge.specs.declared.Knowledge.{Knowledge}
 use Rattle.knowledge.specs.Knowledge.{dead, start}
 use Rattle.learning.specs.Learn.{learnOf}
@@ -41,7 +41,7 @@ silenceKept reply k = unless (isEmpty reply) (dead k) k
 
 -- u is the text of the reply's frame
 unfoldable pub textLearnt : ℕ → ℕ → List ℕ → List ℕ → Knowledge → Knowledge
-textLearnt a c t u k = unless (equal (take 2 u) (digits 2 a)) (dead k) (learnOf c (requestOf t) (drop 2 u) k)
+textLearnt a c t u k = unless (equal (take 2 u) (digits 2 a)) (dead k) (learnOf c (askedIn t) (drop 2 u) k)
 
 abbrev pub locatedLearnt : ℕ → ℕ → List ℕ → Answer → List ℕ → Knowledge → Knowledge
 locatedLearnt a c t (accepted n) u k = textLearnt a c t u k

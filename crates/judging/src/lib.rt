@@ -1,5 +1,4 @@
 // The judge: whether any correct controller could have produced a recording, and if not, where it broke.
-use command::is_word;
 use frame::Addressed;
 use frame::Kind;
 use frame::Located;
@@ -7,6 +6,7 @@ use knowledge::Knowledge;
 use recording::Next;
 use recording::Read;
 use recording::Refusal;
+use text::is_word;
 ghost use mathlib.Core.Path.{_≡_};
 ghost use Prim.Native.Nat.{_≤_};
 ghost use lib.ListN.{length};
@@ -55,7 +55,7 @@ fn learn_reply(k: Knowledge, address: u8, access: u8, asked: &[u8], reply: &[u8]
 }
 
 // What one exchange teaches.
-fn learn(k: Knowledge, address: u8, access: u8, request: &[u8], reply: &[u8]) -> Knowledge
+fn learn_exchange(k: Knowledge, address: u8, access: u8, request: &[u8], reply: &[u8]) -> Knowledge
     ensures { λ r. ⌜ r ≡ exchangeLearnt address access k (exchange (now (request .entry)) (now (reply .entry))) ⌝ }
 {
     match frame::address(Kind::Minicomputer, request) {
@@ -92,7 +92,7 @@ fn judge_exchanges(s: &[u8], address: u8, access: u8, count: usize) -> Judgement
                 let stop = spans.stop;
                 let reply = spans.reply;
                 let end = spans.end;
-                k = learn(k, address, access, &s[request..stop], &s[reply..end]);
+                k = learn_exchange(k, address, access, &s[request..stop], &s[reply..end]);
                 passed += 1;
                 if !k.alive {
                     return Judgement::Refuted(passed, count);

@@ -1,19 +1,20 @@
 -- What a field may hold by the codes of its sets: any, one number alone, and those of a set that pass a test. By the bits of masks,
--- since no field with a mask goes beyond 8, and since no field can hold the number that stands for any. Assumes nothing.
-use Prim.Native.Nat.{ℕ, _≤_, _<_}
+-- since no field with a mask goes beyond the last recipe, and since no field can hold the number that stands for any. Assumes nothing.
+use Prim.Native.Nat.{ℕ, _+_, _≤_, _<_}
 use mathlib.Core.Bool.{Bool, true, false, _&&_, _||_, false≢true}
 use mathlib.Core.Path.{_≡_, refl, sym, ap, _∙_}
 use mathlib.Core.Logic.{⊎-elim}
 use native.Mathlib.Omega.{arith}
-use lib.Dec.{eqb, leb}
+use lib.Dec.{eqb, leb, ltb}
+use lib.ListN.{getD}
 use lib.Bits.{bitAnd}
-use borrow.Author.Tests.{eq-eqb, ne-eqb, eqb-true, leb-true}
+use borrow.Author.Tests.{eq-eqb, ne-eqb, eqb-true, leb-true, ltb-true}
 use Rattle.base.specs.Test.{between}
 use Rattle.base.proofs.Tests.{and-yes, and-left, and-right, between-high, between-no, holds-below, below-or-not}
-use Rattle.state.specs.Parameter.{parameterCount, rangeAt}
-use Rattle.state.specs.Field.{Field, address, access, phase, keypad, flow, changed, reset, powerfail, recipe, preset, raw, number, value, level, position, fieldRange}
+use Rattle.state.specs.Parameter.{recipes, parameterCount, rangeAt}
+use Rattle.state.specs.Field.{Field, address, access, position, fieldRange, scalarFields}
 use Rattle.state.specs.Valid.{within}
-use Rattle.state.proofs.Fields.{Held}
+use Rattle.state.proofs.Fields.{Held, by-fields, by-list}
 use Rattle.knowledge.specs.Sets.{Kind, several, single, kindOf, bit, maskIn, anyNumber, only, inSet, has, any, anyOf, alone, aloneOf}
 use Rattle.knowledge.proofs.Bits.{bit-and, bit-zero, bit-mask, bit-beyond, some-bit}
 
@@ -21,53 +22,45 @@ use Rattle.knowledge.proofs.Bits.{bit-and, bit-zero, bit-mask, bit-beyo
 differ : single ≡ several → ⊥
 differ e = let z : _≡_ {A = ℕ} 0 1 = cc in omega arith
 
--- a field with a mask holds small numbers, and is neither the address nor the access
+-- a field with a mask holds small numbers, and stands behind the address and the access
 pub record Small (f : Field) : Type 0 where
-  pub limit : fieldRange f .high ≤ 8
-  pub beyond : 2 ≤ position f
+  pub limit : fieldRange f .high ≤ recipes
+  pub beyond : position access < position f
+
+isSingle : Kind → Bool
+isSingle several = false
+isSingle single = true
+
+abbrev limited : Field → Bool
+limited f = isSingle (kindOf f) || (leb (fieldRange f .high) recipes && ltb (position access) (position f))
 
 pub small : (f : Field) → kindOf f ≡ several → Small f
-small address e = absurd (differ e)
-small access e = absurd (differ e)
-small phase e = omega arith
-small keypad e = omega arith
-small flow e = omega arith
-small changed e = omega arith
-small reset e = omega arith
-small powerfail e = omega arith
-small recipe e = omega arith
-small preset e = absurd (differ e)
-small raw e = absurd (differ e)
-small number e = absurd (differ e)
-small (value i) e = absurd (differ e)
-small (level i) e = omega arith
-
-value-high : (i : ℕ) → i < parameterCount → rangeAt i .high ≤ 99999999
-unfolding rangeAt
-value-high i h = leb-true _ _ (holds-below (λ (j : ℕ). leb (rangeAt j .high) 99999999) parameterCount refl i h)
-
-high-below : (f : Field) → Held f → fieldRange f .high ≤ 99999999
-high-below address h = omega arith
-high-below access h = omega arith
-high-below phase h = omega arith
-high-below keypad h = omega arith
-high-below flow h = omega arith
-high-below changed h = omega arith
-high-below reset h = omega arith
-high-below powerfail h = omega arith
-high-below recipe h = omega arith
-high-below preset h = omega arith
-high-below raw h = omega arith
-high-below number h = omega arith
-high-below (value i) h = value-high i (omega arith)
-high-below (level i) h = omega arith
+unfolding isSingle
+small =
+    by-fields (λ (f : Field). kindOf f ≡ several → Small f) (λ n l e. told (getD scalarFields n address) e (by-list limited (λ f. true) refl n))
+    (λ i e. absurd (differ e)) (λ i e. omega arith)
+  where
+    told : (f : Field) → kindOf f ≡ several → limited f ≡ true → Small f
+    told f e h =
+        let b : leb (fieldRange f .high) recipes && ltb (position access) (position f) ≡ true =
+        ap (λ (k : Kind). isSingle k || (leb (fieldRange f .high) recipes && ltb (position access) (position f))) (sym e) ∙ h in
+        record {
+          limit = leb-true _ _ (and-left (leb (fieldRange f .high) recipes) (ltb (position access) (position f)) b);
+          beyond = ltb-true _ _ (and-right (leb (fieldRange f .high) recipes) (ltb (position access) (position f)) b);
+        }
 
 -- no field can hold the number that stands for any
+high-below : (f : Field) → Held f → fieldRange f .high < anyNumber
+unfolding rangeAt
+high-below =
+    by-fields (λ (f : Field). Held f → fieldRange f .high < anyNumber) (λ n l h. ltb-true _ _ (by-list (λ (f : Field). ltb (fieldRange f .high) anyNumber) (λ f. true) refl n))
+    (λ i h. ltb-true _ _ (holds-below (λ (j : ℕ). ltb (rangeAt j .high) anyNumber) parameterCount refl i (omega arith)))
+    (λ i h. omega arith)
+
 pub never-any : (f : Field) (n : ℕ) → Held f → within (fieldRange f) n ≡ true → n ≡ anyNumber → ⊥
 never-any f n h w e =
     let a : n ≤ fieldRange f .high = between-high (fieldRange f .low) (fieldRange f .high) n w in
-    let b : fieldRange f .high ≤ 99999999 = high-below f h in
-    let d : n ≡ 0xffffffff = e in
+    let b : fieldRange f .high < anyNumber = high-below f h in
     omega arith
 
 -- ---- a number in a set
@@ -110,9 +103,9 @@ module _ (f : Field) (p : ℕ → Bool) (e : kindOf f ≡ several) where
   pub masked : (n : ℕ) → bit (maskIn f p) n ≡ (within (fieldRange f) n && p n)
   masked n =
       let s = small f e in
-      ⊎-elim (λ (l : n < 9). bit-mask (λ m. within (fieldRange f) m && p m) 9 0 n l ∙ ap (λ (m : ℕ). within (fieldRange f) m && p m) (omega arith))
-      (λ (l : 9 ≤ n). bit-beyond (λ m. within (fieldRange f) m && p m) 9 0 n l ∙ sym (outside (fieldRange f .low) (fieldRange f .high) n (p n) (omega arith)))
-      (below-or-not n 9)
+      ⊎-elim (λ (l : n < recipes + 1). bit-mask (λ m. within (fieldRange f) m && p m) (recipes + 1) 0 n l ∙ ap (λ (m : ℕ). within (fieldRange f) m && p m) (omega arith))
+      (λ (l : recipes + 1 ≤ n). bit-beyond (λ m. within (fieldRange f) m && p m) (recipes + 1) 0 n l ∙ sym (outside (fieldRange f .low) (fieldRange f .high) n (p n) (omega arith)))
+      (below-or-not n (recipes + 1))
 
   module _ (code : ℕ) where
     -- what is left of a set by a test

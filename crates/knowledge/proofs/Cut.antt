@@ -1,6 +1,6 @@
 -- Cuts are exact: a record is possible after a cut exactly if it was possible before and its field passes the test, or holds the number
 -- told; and what is kept stays kept. By the law of what is left of a set's code. Assumes nothing.
-use Prim.Native.Nat.{ℕ, _≤_}
+use Prim.Native.Nat.{ℕ, _<_}
 use mathlib.Core.Bool.{Bool, true, false, _&&_, false≢true}
 use mathlib.Core.Path.{_≡_, refl, sym, ap, subst, _∙_}
 use lib.Dec.{eqb}
@@ -11,12 +11,12 @@ use Rattle.base.specs.Test.{pick}
 use Rattle.base.proofs.Tests.{and-yes, and-left, and-right}
 use Rattle.state.specs.declared.Record.{Record}
 use Rattle.state.specs.Parameter.{parameterCount}
-use Rattle.state.specs.Field.{Field, value, get, position, fieldRange}
+use Rattle.state.specs.Field.{Field, access, value, get, position, fieldRange}
 use Rattle.state.specs.Valid.{within}
 use Rattle.state.proofs.Fields.{Held}
 use Rattle.knowledge.specs.declared.Knowledge.{Knowledge}
 use Rattle.knowledge.specs.Sets.{several, single, kindOf, maskIn, only, has}
-use Rattle.knowledge.specs.Knowledge.{codeAt, dead, recoded, narrowed, told, passing, holding}
+use Rattle.knowledge.specs.Knowledge.{codeAt, dead, recoded, restricted, told, passing, holding}
 use Rattle.knowledge.proofs.Possible.{Possible, Kept}
 use Rattle.knowledge.proofs.Codes.{small, has-within, has-only, only-has, only-self, only-same, never-any, passed, some-passed, none-empty}
 use Rattle.knowledge.proofs.Recode.{recode-own, recode-told, recode-left, recode-kept}
@@ -43,7 +43,7 @@ module _ (k : Knowledge) (r : Record) (f : Field) (p : ℕ → Bool) (full : len
   own = passed f p kind (codeAt (position f) k) (get f r)
 
   pub passing-told : Possible (passing f p k) r → Possible k r × (p (get f r) ≡ true)
-  unfolding narrowed left
+  unfolding restricted left
   passing-told = go (eqb (left f p k) 0)
     where
       go : (b : Bool) → Possible (pick b (dead k) (recoded (position f) (left f p k) k)) r → Possible k r × (p (get f r) ≡ true)
@@ -54,7 +54,7 @@ module _ (k : Knowledge) (r : Record) (f : Field) (p : ℕ → Bool) (full : len
           (recode-told k r f (left f p k) full held t (and-left had (p (get f r)) both), and-right had (p (get f r)) both)
 
   pub passing-left : Possible k r → p (get f r) ≡ true → Possible (passing f p k) r
-  unfolding narrowed left
+  unfolding restricted left
   passing-left t q = go (eqb (left f p k) 0) refl
     where
       has-left : has f (left f p k) (get f r) ≡ true
@@ -65,7 +65,7 @@ module _ (k : Knowledge) (r : Record) (f : Field) (p : ℕ → Bool) (full : len
       go false e = recode-left k r f (left f p k) full held t has-left
 
 pub passing-kept : {a c : ℕ} (k : Knowledge) (f : Field) (p : ℕ → Bool) → Kept a c k → Held f → kindOf f ≡ several → Kept a c (passing f p k)
-unfolding narrowed left
+unfolding restricted left
 passing-kept {a} {c} k f p kept held kind = go (eqb (left f p k) 0) refl
   where
     go : (b : Bool) → eqb (left f p k) 0 ≡ b → Kept a c (pick b (dead k) (recoded (position f) (left f p k) k))
@@ -101,7 +101,7 @@ module _ (k : Knowledge) (r : Record) (f : Field) (n : ℕ) (full : length (k .c
       (sym (and-yes (within (fieldRange f) n) (only (codeAt (position f) k) n) w (has-only f (codeAt (position f) k) n kind h)))
       (recode-left k r f n full held t (ap (has f n) same ∙ only-has f n n kind w (only-self n)))
 
-pub holding-kept : {a c : ℕ} (k : Knowledge) (f : Field) (n : ℕ) → Kept a c k → Held f → kindOf f ≡ single → 2 ≤ position f → Kept a c (holding f n k)
+pub holding-kept : {a c : ℕ} (k : Knowledge) (f : Field) (n : ℕ) → Kept a c k → Held f → kindOf f ≡ single → position access < position f → Kept a c (holding f n k)
 unfolding told
 holding-kept {a} {c} k f n kept held kind beyond = go (within (fieldRange f) n && only (codeAt (position f) k) n) refl
   where

@@ -1,22 +1,22 @@
 -- Moves are exact: a record is possible after a move exactly if it comes from one that was possible before; and what is kept stays kept.
 -- Both moves put into a field a number that depends on the field alone, so one law serves them. Assumes nothing.
-use Prim.Native.Nat.{ℕ, _+_, _-_, _≤_, _<_}
+use Prim.Native.Nat.{ℕ, _-_, _<_}
 use mathlib.Core.Bool.{Bool, true, false}
 use mathlib.Core.Path.{_≡_, refl, sym, ap, ap₂, _∙_}
 use native.Mathlib.Omega.{arith}
-use lib.Dec.{eqb, ltb}
+use lib.Dec.{eqb}
 use lib.ListN.{length}
-use borrow.Author.Tests.{eqb-true, eqb-false, ltb-true, lt-ltb}
+use borrow.Author.Tests.{eqb-true, eqb-false, lt-ltb}
 use Rattle.base.specs.Test.{pick}
 use Rattle.base.proofs.Tests.{between-yes, between-low, between-high}
 use Rattle.state.specs.declared.Record.{Record}
 use Rattle.state.specs.Parameter.{parameterCount}
-use Rattle.state.specs.Field.{Field, number, value, get, put, position, fieldRange}
+use Rattle.state.specs.Field.{Field, access, number, value, get, put, position, fieldRange}
 use Rattle.state.specs.Valid.{within, valid}
 use Rattle.state.specs.Event.{nextNumber}
 use Rattle.state.proofs.Fields.{Held, get-put-same, get-put-other}
 use Rattle.state.proofs.Validity.{valid-tell}
-use Rattle.state.proofs.Kept.{field-in, put-kept}
+use Rattle.state.proofs.Kept.{field-in, put-kept, next-within}
 use Rattle.state.proofs.Whole.{same-fields}
 use Rattle.knowledge.specs.declared.Knowledge.{Knowledge}
 use Rattle.knowledge.specs.Sets.{anyNumber, only, has, alone}
@@ -81,7 +81,7 @@ becoming-back k s f n kept held w t =
     move-back k f (λ v. n) (alone f n) (kept .full) held s
     (λ alive m h. let b = kept .some alive f held in (b .0, b .1, sym (alone-same f n w m held h))) t
 
-pub becoming-kept : {a c : ℕ} (k : Knowledge) (f : Field) (n : ℕ) → Kept a c k → Held f → 2 ≤ position f → within (fieldRange f) n ≡ true
+pub becoming-kept : {a c : ℕ} (k : Knowledge) (f : Field) (n : ℕ) → Kept a c k → Held f → position access < position f → within (fieldRange f) n ≡ true
     → Kept a c (becoming f n k)
 unfolding becoming
 becoming-kept k f n kept held beyond w = recode-kept k f (alone f n) kept held beyond (λ alive. (n, alone-has f n w))
@@ -91,13 +91,6 @@ becoming-kept k f n kept held beyond w = recode-kept k f (alone f n) kept held b
 -- the code of the numbers after those of a code
 next : ℕ → ℕ
 next c = pick (eqb c anyNumber) anyNumber (nextNumber c)
-
-next-within : (n : ℕ) → within (fieldRange number) (nextNumber n) ≡ true
-next-within n = go (ltb n 9999) refl
-  where
-    go : (b : Bool) → ltb n 9999 ≡ b → within (fieldRange number) (pick b (n + 1) 1) ≡ true
-    go true e = let l : n < 9999 = ltb-true n 9999 e in between-yes 1 9999 (n + 1) (omega arith) (omega arith)
-    go false e = refl
 
 next-has : (c w : ℕ) → has number c w ≡ true → has number (next c) (nextNumber w) ≡ true
 unfolding next
@@ -111,15 +104,15 @@ next-has c w h = go (eqb c anyNumber) refl
 
 -- each number comes after one
 before-next : (m : ℕ) → within (fieldRange number) m ≡ true → (w : ℕ) × (within (fieldRange number) w ≡ true) × (nextNumber w ≡ m)
-before-next m h = go (eqb m 1) refl
+before-next m h = go (eqb m (fieldRange number .low)) refl
   where
-    go : (b : Bool) → eqb m 1 ≡ b → (w : ℕ) × (within (fieldRange number) w ≡ true) × (nextNumber w ≡ m)
-    go true e = (9999, refl, sym (eqb-true m 1 e))
+    go : (b : Bool) → eqb m (fieldRange number .low) ≡ b → (w : ℕ) × (within (fieldRange number) w ≡ true) × (nextNumber w ≡ m)
+    go true e = (fieldRange number .high, refl, sym (eqb-true _ _ e))
     go false e =
-        let low : 1 ≤ m = between-low 1 9999 m h in
-        let high : m ≤ 9999 = between-high 1 9999 m h in
-        let other = eqb-false m 1 e in
-        (m - 1, between-yes 1 9999 (m - 1) (omega arith) (omega arith), simp (lt-ltb (m - 1) 9999 (omega arith)) (omega arith))
+        let low = between-low (fieldRange number .low) (fieldRange number .high) m h in
+        let high = between-high (fieldRange number .low) (fieldRange number .high) m h in
+        let other = eqb-false m (fieldRange number .low) e in
+        (m - 1, between-yes _ _ (m - 1) (omega arith) (omega arith), simp (lt-ltb (m - 1) (fieldRange number .high) (omega arith)) (omega arith))
 
 next-back : (c m w : ℕ) → has number c w ≡ true → has number (next c) m ≡ true → (v : ℕ) × (has number c v ≡ true) × (nextNumber v ≡ m)
 unfolding next

@@ -1,6 +1,6 @@
 -- One field's code replaced: which records are possible then, and what is kept. A field is the one whose code changes or has another
 -- position, so no law has a case per field. Assumes nothing.
-use Prim.Native.Nat.{ℕ, _≤_}
+use Prim.Native.Nat.{ℕ, _<_}
 use mathlib.Core.Bool.{Bool, true, false}
 use mathlib.Core.Path.{_≡_, refl, sym, ap, subst, _∙_}
 use native.Mathlib.Omega.{arith}
@@ -62,16 +62,20 @@ module _ (k : Knowledge) (r : Record) (f : Field) (code : ℕ) (full : length (k
       }
 
 -- ---- what is kept
-pub recode-kept : {a c : ℕ} (k : Knowledge) (f : Field) (code : ℕ) → Kept a c k → Held f → 2 ≤ position f
+module _ (k : Knowledge) (f : Field) (code : ℕ) (full : length (k .codes) ≡ position (value parameterCount)) (held : Held f) where
+  pub recode-some : (n : ℕ) × (has f code n ≡ true) → ((g : Field) → Held g → (n : ℕ) × (has g (codeAt (position g) k) n ≡ true))
+      → (g : Field) → Held g → (n : ℕ) × (has g (codeAt (position g) (recoded (position f) code k)) n ≡ true)
+  recode-some own some =
+      each-field f (λ g. (n : ℕ) × (has g (codeAt (position g) (recoded (position f) code k)) n ≡ true))
+      (own .0, ap (λ (d : ℕ). has f d (own .0)) (code-same k f code full held) ∙ own .1)
+      (λ g h n. let s = some g h in (s .0, ap (λ (d : ℕ). has g d (s .0)) (code-other k f code g n) ∙ s .1))
+
+pub recode-kept : {a c : ℕ} (k : Knowledge) (f : Field) (code : ℕ) → Kept a c k → Held f → position access < position f
     → (k .alive ≡ true → (n : ℕ) × (has f code n ≡ true)) → Kept a c (recoded (position f) code k)
 recode-kept k f code kept held beyond left =
     record {
       full = length-set (k .codes) (position f) code ∙ kept .full;
       own-address = code-other k f code address (λ e. omega arith) ∙ kept .own-address;
       own-access = code-other k f code access (λ e. omega arith) ∙ kept .own-access;
-      some =
-          λ alive.
-          each-field f (λ g. (n : ℕ) × (has g (codeAt (position g) (recoded (position f) code k)) n ≡ true))
-          (let s = left alive in (s .0, ap (λ (d : ℕ). has f d (s .0)) (code-same k f code (kept .full) held) ∙ s .1))
-          (λ g h n. let s = kept .some alive g h in (s .0, ap (λ (d : ℕ). has g d (s .0)) (code-other k f code g n) ∙ s .1));
+      some = λ alive. recode-some k f code (kept .full) held (left alive) (kept .some alive);
     }

@@ -1,5 +1,5 @@
 -- At the start exactly the valid records with the address and the access are possible; what is kept gives the address and the access of
--- each possible record, and, while alive, a possible record. The start's codes are read by the fields' positions. Assumes nothing.
+-- each possible record, and, while alive, a possible record. The codes are read by the fields' positions. Assumes nothing.
 use Prim.Native.Nat.{ℕ, zero, suc, _+_, _-_, _*_, _≤_, _<_}
 use mathlib.Core.Bool.{Bool, true, false}
 use mathlib.Core.Path.{_≡_, refl, sym, ap, _∙_}
@@ -7,22 +7,23 @@ use mathlib.Core.List.{List, [], _∷_, map}
 use mathlib.Core.Logic.{⊎-elim}
 use native.Mathlib.Nat.{not-suc-le-zero, le-of-suc-le-suc}
 use native.Mathlib.Omega.{arith}
-use lib.Dec.{eqb, ltb}
+use lib.Dec.{ltb}
 use lib.ListN.{length, getD, length-append, List·getD-append}
 use lib.Seq.{getD-append-add}
-use borrow.Author.Tests.{eqb-true, ltb-true, ltb-false}
-use Rattle.base.proofs.Tests.{holds-below, below-or-not}
+use borrow.Author.Tests.{ltb-true, ltb-false}
+use Rattle.base.proofs.Tests.{below-or-not}
 use Rattle.state.specs.declared.Record.{Record}
 use Rattle.state.specs.Parameter.{parameterCount}
-use Rattle.state.specs.Field.{Field, address, access, phase, keypad, flow, changed, reset, powerfail, recipe, preset, raw, number, value, level, get, position, fieldRange, fieldsFor, parameterFields, recordFrom}
+use Rattle.state.specs.Field.{Field, address, access, value, level, get, position, fieldRange, scalarFields, scalarCount, fieldsFor, parameterFields, recordFrom}
 use Rattle.state.specs.Valid.{within, valid}
-use Rattle.state.proofs.Fields.{Held, same-field}
+use Rattle.state.proofs.Fields.{Held, same-field, scalar-at}
 use Rattle.state.proofs.Kept.{field-in}
 use Rattle.state.proofs.Whole.{get-from, from-valid, low-within}
 use Rattle.knowledge.specs.declared.Knowledge.{Knowledge}
 use Rattle.knowledge.specs.Sets.{single, kindOf, only, has, any}
-use Rattle.knowledge.specs.Knowledge.{codeAt, start, startCode}
+use Rattle.knowledge.specs.Knowledge.{codeAt, recoded, unknown, start}
 use Rattle.knowledge.proofs.Possible.{Possible, Kept}
+use Rattle.knowledge.proofs.Recode.{code-same, code-other, recode-left, recode-some}
 use Rattle.knowledge.proofs.Codes.{has-within, has-only, only-has, only-self, only-same, never-any, any-has}
 
 -- ---- the address and the access that are kept
@@ -62,7 +63,7 @@ some-record k kept alive = (
     inside : (f : Field) → Held f → within (fieldRange f) (number-of f) ≡ true
     inside f h = has-within f (codeAt (position f) k) (number-of f) (found f .1 h)
 
--- ---- the start's codes
+-- ---- the codes where nothing is known
 
 -- an element of a mapped list, whatever stands for a missing one
 mapped-at : {A B : Type 0} (g : A → B) (l : List A) (i : ℕ) (d : A) (e : B) → i < length l → getD (map g l) i e ≡ g (getD l i d)
@@ -75,12 +76,12 @@ parameters-length zero = refl
 parameters-length (suc n) = let h = parameters-length n in length-append (parameterFields n) (value n ∷ level n ∷ []) ∙ omega arith
 
 -- each field of the list stands at its position
-pair-at : (n j : ℕ) → j < 2 → position (getD (value n ∷ level n ∷ []) j address) ≡ 12 + 2 * n + j
+pair-at : (n j : ℕ) → j < 2 → position (getD (value n ∷ level n ∷ []) j address) ≡ position (value n) + j
 pair-at n zero h = omega arith
 pair-at n (suc zero) h = omega arith
 pair-at n (suc (suc j)) h = absurd (omega arith)
 
-parameters-at : (n j : ℕ) → j < 2 * n → position (getD (parameterFields n) j address) ≡ 12 + j
+parameters-at : (n j : ℕ) → j < 2 * n → position (getD (parameterFields n) j address) ≡ scalarCount + j
 parameters-at zero j h = absurd (omega arith)
 parameters-at (suc n) j h =
     let l = parameters-length n in
@@ -92,70 +93,49 @@ parameters-at (suc n) j h =
     ∙ (ap position (getD-append-add (parameterFields n) (value n ∷ level n ∷ []) (j - 2 * n) address) ∙ omega arith))
     (below-or-not j (2 * n))
 
-fields-at : (n i : ℕ) → i < 12 + 2 * n → position (getD (fieldsFor n) i address) ≡ i
+fields-at : (n i : ℕ) → i < position (value n) → position (getD (fieldsFor n) i address) ≡ i
 fields-at n i h =
-    ⊎-elim (λ (q : i < 12).
-    ap position (List·getD-append (fieldsFor 0) (parameterFields n) address i q)
-    ∙ eqb-true _ _ (holds-below (λ (j : ℕ). eqb (position (getD (fieldsFor 0) j address)) j) 12 refl i q))
-    (λ (q : 12 ≤ i).
-    let e : i ≡ 12 + (i - 12) = omega arith in
-    let t = parameters-at n (i - 12) (omega arith) in
+    ⊎-elim (λ (q : i < scalarCount). ap position (List·getD-append scalarFields (parameterFields n) address i q) ∙ scalar-at i q)
+    (λ (q : scalarCount ≤ i).
+    let e : i ≡ scalarCount + (i - scalarCount) = omega arith in
+    let t = parameters-at n (i - scalarCount) (omega arith) in
     ap (λ (j : ℕ). position (getD (fieldsFor n) j address)) e
-    ∙ (ap position (getD-append-add (fieldsFor 0) (parameterFields n) (i - 12) address) ∙ omega arith))
-    (below-or-not i 12)
+    ∙ (ap position (getD-append-add scalarFields (parameterFields n) (i - scalarCount) address) ∙ omega arith))
+    (below-or-not i scalarCount)
 
-start-code : (a c : ℕ) (f : Field) → Held f → codeAt (position f) (start a c) ≡ startCode a c f
-unfolding codeAt start
-start-code a c f h =
-    mapped-at (startCode a c) (fieldsFor parameterCount) (position f) address 0 h
-    ∙ ap (startCode a c) (same-field (getD (fieldsFor parameterCount) (position f) address) f (fields-at parameterCount (position f) h))
-
--- the address, the access, and any other
-each-start : (a c : ℕ) (P : Field → ℕ → Type 0) → P address a → P access c → ((f : Field) → P f (any f)) → (f : Field) → P f (startCode a c f)
-each-start a c P x y z address = x
-each-start a c P x y z access = y
-each-start a c P x y z phase = z phase
-each-start a c P x y z keypad = z keypad
-each-start a c P x y z flow = z flow
-each-start a c P x y z changed = z changed
-each-start a c P x y z reset = z reset
-each-start a c P x y z powerfail = z powerfail
-each-start a c P x y z recipe = z recipe
-each-start a c P x y z preset = z preset
-each-start a c P x y z raw = z raw
-each-start a c P x y z number = z number
-each-start a c P x y z (value i) = z (value i)
-each-start a c P x y z (level i) = z (level i)
+unknown-code : (f : Field) → Held f → codeAt (position f) unknown ≡ any f
+unfolding codeAt
+unknown-code f h =
+    mapped-at any (fieldsFor parameterCount) (position f) address 0 h
+    ∙ ap any (same-field (getD (fieldsFor parameterCount) (position f) address) f (fields-at parameterCount (position f) h))
 
 -- ---- the records of the start
 module _ (a c : ℕ) where
+  -- the address is known
+  abbrev addressed : Knowledge
+  addressed = recoded (position address) a unknown
+
   pub start-possible : (r : Record) → valid r ≡ true → get address r ≡ a → get access r ≡ c → Possible (start a c) r
   unfolding start
   start-possible r v p q =
-      record {
-        living = refl;
-        sound = v;
-        each =
-            λ f h.
-            ap (λ (d : ℕ). has f d (get f r)) (start-code a c f h)
-            ∙ each-start a c (λ g d. Held g → has g d (get g r) ≡ true)
-            (λ l. only-has address a (get address r) refl (field-in r v address l) (ap (only a) p ∙ only-self a))
-            (λ l. only-has access c (get access r) refl (field-in r v access l) (ap (only c) q ∙ only-self c))
-            (λ g l. any-has g (get g r) (field-in r v g l)) f h;
-      }
+      let all : Possible unknown r =
+      record { living = refl; sound = v; each = λ f h. ap (λ (d : ℕ). has f d (get f r)) (unknown-code f h) ∙ any-has f (get f r) (field-in r v f h) } in
+      recode-left addressed r access c refl (omega arith)
+      (recode-left unknown r address a refl (omega arith) all (only-has address a (get address r) refl (field-in r v address (omega arith)) (ap (only a) p ∙ only-self a)))
+      (only-has access c (get access r) refl (field-in r v access (omega arith)) (ap (only c) q ∙ only-self c))
 
   pub start-kept : within (fieldRange address) a ≡ true → within (fieldRange access) c ≡ true → Kept a c (start a c)
   unfolding start
   start-kept p q =
       record {
         full = refl;
-        own-address = start-code a c address (omega arith);
-        own-access = start-code a c access (omega arith);
+        own-address = code-other addressed access c address (λ e. omega arith) ∙ code-same unknown address a refl (omega arith);
+        own-access = code-same addressed access c refl (omega arith);
         some =
-            λ alive f h.
-            let s = each-start a c (λ g d. Held g → (n : ℕ) × (has g d n ≡ true)) (λ l. (a, only-has address a a refl p (only-self a)))
-            (λ l. (c, only-has access c c refl q (only-self c))) (λ g l. (fieldRange g .low, any-has g (fieldRange g .low) (low-within g l))) f h in
-            (s .0, ap (λ (d : ℕ). has f d (s .0)) (start-code a c f h) ∙ s .1);
+            λ alive.
+            recode-some addressed access c refl (omega arith) (c, only-has access c c refl q (only-self c))
+            (recode-some unknown address a refl (omega arith) (a, only-has address a a refl p (only-self a))
+            (λ g l. (fieldRange g .low, ap (λ (d : ℕ). has g d (fieldRange g .low)) (unknown-code g l) ∙ any-has g (fieldRange g .low) (low-within g l))));
       }
 
   pub start-told : (r : Record) → within (fieldRange address) a ≡ true → within (fieldRange access) c ≡ true → Possible (start a c) r

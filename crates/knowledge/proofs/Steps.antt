@@ -12,11 +12,11 @@ use lib.Bits.{bitAnd}
 use borrow.Author.Tests.{eq-eqb, ne-eqb, lt-ltb, le-ltb, not-true, not-false}
 use Rattle.state.specs.declared.Range.{Range}
 use Rattle.state.specs.Parameter.{parameterCount}
-use Rattle.state.specs.Field.{number, value, level, position, fieldsFor}
+use Rattle.state.specs.Field.{address, access, number, value, level, position, fieldRange, fieldsFor}
 use Rattle.state.specs.Valid.{within}
 use Rattle.knowledge.specs.declared.Knowledge.{Knowledge}
-use Rattle.knowledge.specs.Sets.{maskFrom, anyNumber}
-use Rattle.knowledge.specs.Knowledge.{codeAt, dead, recoded, narrowed, told, advanced, startCode, start}
+use Rattle.knowledge.specs.Sets.{maskFrom, anyNumber, any}
+use Rattle.knowledge.specs.Knowledge.{codeAt, dead, recoded, restricted, told, advanced, start}
 
 -- ---- one code: beyond the last position there is none
 module _ (k : Knowledge) (p n : ℕ) (full : length (k .codes) ≡ n) (beyond : n ≤ p) where
@@ -30,13 +30,13 @@ module _ (k : Knowledge) (p n : ℕ) (full : length (k .codes) ≡ n) (beyond : 
 module _ (k s : Knowledge) (c : ℕ) where
   -- ---- a cut by a mask
   module _ (p m : ℕ) (known : c ≡ codeAt p k) where
-    pub narrow-none : bitAnd c m ≡ 0 → s ≡ dead k → s ≡ narrowed p m k
-    unfolding narrowed
-    narrow-none z e = e ∙ simp (← known, eq-eqb _ _ z)
+    pub restrict-none : bitAnd c m ≡ 0 → s ≡ dead k → s ≡ restricted p m k
+    unfolding restricted
+    restrict-none z e = e ∙ simp (← known, eq-eqb _ _ z)
 
-    pub narrow-some : (bitAnd c m ≡ 0 → ⊥) → s ≡ recoded p (bitAnd c m) k → s ≡ narrowed p m k
-    unfolding narrowed
-    narrow-some z e = e ∙ simp (← known, ne-eqb _ _ z)
+    pub restrict-some : (bitAnd c m ≡ 0 → ⊥) → s ≡ recoded p (bitAnd c m) k → s ≡ restricted p m k
+    unfolding restricted
+    restrict-some z e = e ∙ simp (← known, ne-eqb _ _ z)
 
   -- ---- a cut to one number
   module _ (p n : ℕ) (range : Range) (b : Bool) (inside : b ≡ within range n) where
@@ -64,46 +64,51 @@ module _ (k s : Knowledge) (c : ℕ) where
     advance-any a e = e ∙ simp (← known, eq-eqb _ _ a)
 
     module _ (one : c ≡ anyNumber → ⊥) where
-      pub advance-more : c < 9999 → s ≡ recoded (position number) (c + 1) k → s ≡ advanced k
+      pub advance-more : c < fieldRange number .high → s ≡ recoded (position number) (c + 1) k → s ≡ advanced k
       unfolding advanced
       advance-more l e = e ∙ simp (← known, ne-eqb _ _ one, lt-ltb _ _ l)
 
-      pub advance-round : 9999 ≤ c → s ≡ recoded (position number) 1 k → s ≡ advanced k
+      pub advance-round : fieldRange number .high ≤ c → s ≡ recoded (position number) (fieldRange number .low) k → s ≡ advanced k
       unfolding advanced
       advance-round l e = e ∙ simp (← known, ne-eqb _ _ one, le-ltb _ _ l)
+
+-- a level may be any
+abbrev anyLevel : ℕ
+anyLevel = 0xf
 
 -- ---- the start: the fields of the first i parameters have their codes, and in all others any number is possible
 module _ (a c : ℕ) where
   abbrev codesFor : ℕ → List ℕ
-  codesFor i = map (startCode a c) (fieldsFor i)
+  codesFor i = set (set (map any (fieldsFor i)) (position address) a) (position access) c
 
   unfoldable pub begun : ℕ → List ℕ
   begun i = codesFor i ++ replicate (2 * (parameterCount - i)) anyNumber
 
-  codes-more : (i : ℕ) → codesFor (suc i) ≡ codesFor i ++ (anyNumber ∷ 15 ∷ [])
+  codes-more : (i : ℕ) → codesFor (suc i) ≡ codesFor i ++ (anyNumber ∷ anyLevel ∷ [])
   unfolding maskFrom
-  codes-more i = map-append (startCode a c) (fieldsFor i) (value i ∷ level i ∷ [])
+  codes-more i =
+      ap (λ (codes : List ℕ). set (set codes (position address) a) (position access) c) (map-append any (fieldsFor i) (value i ∷ level i ∷ []))
 
-  codes-length : (i : ℕ) → length (codesFor i) ≡ 12 + 2 * i
+  codes-length : (i : ℕ) → length (codesFor i) ≡ position (value i)
   codes-length zero = refl
   codes-length (suc i) =
       let h = codes-length i in
-      ap length (codes-more i) ∙ (length-append (codesFor i) (anyNumber ∷ 15 ∷ []) ∙ omega arith)
+      ap length (codes-more i) ∙ (length-append (codesFor i) (anyNumber ∷ anyLevel ∷ []) ∙ omega arith)
 
   -- the level of one parameter more
-  level-set : (xs : List ℕ) (i n : ℕ) → length xs ≡ 12 + 2 * i
-      → set (xs ++ replicate (suc (suc n)) anyNumber) (13 + 2 * i) 15 ≡ (xs ++ (anyNumber ∷ 15 ∷ [])) ++ replicate n anyNumber
+  level-set : (xs : List ℕ) (i n : ℕ) → length xs ≡ position (value i)
+      → set (xs ++ replicate (suc (suc n)) anyNumber) (position (level i)) anyLevel ≡ (xs ++ (anyNumber ∷ anyLevel ∷ [])) ++ replicate n anyNumber
   level-set xs i n l =
-      ap (λ (ys : List ℕ). set ys (13 + 2 * i) 15) (sym (append-assoc xs (anyNumber ∷ []) (replicate (suc n) anyNumber))) ∙
-      (set-at (xs ++ (anyNumber ∷ [])) anyNumber (replicate n anyNumber) 15 (13 + 2 * i) (length-append xs (anyNumber ∷ []) ∙ omega arith) ∙
-      (append-assoc xs (anyNumber ∷ []) (15 ∷ replicate n anyNumber) ∙ sym (append-assoc xs (anyNumber ∷ 15 ∷ []) (replicate n anyNumber))))
+      ap (λ (ys : List ℕ). set ys (position (level i)) anyLevel) (sym (append-assoc xs (anyNumber ∷ []) (replicate (suc n) anyNumber))) ∙
+      (set-at (xs ++ (anyNumber ∷ [])) anyNumber (replicate n anyNumber) anyLevel (position (level i)) (length-append xs (anyNumber ∷ []) ∙ omega arith) ∙
+      (append-assoc xs (anyNumber ∷ []) (anyLevel ∷ replicate n anyNumber) ∙ sym (append-assoc xs (anyNumber ∷ anyLevel ∷ []) (replicate n anyNumber))))
 
   module _ (codes : List ℕ) (i : ℕ) (e : codes ≡ begun i) where
-    pub begun-more : i < parameterCount → set codes (13 + 2 * i) 15 ≡ begun (i + 1)
+    pub begun-more : i < parameterCount → set codes (position (level i)) anyLevel ≡ begun (i + 1)
     unfolding begun
     begun-more l =
         let m : 2 * (parameterCount - i) ≡ suc (suc (2 * (parameterCount - suc i))) = omega arith in
-        ap (λ (ys : List ℕ). set ys (13 + 2 * i) 15) (e ∙ ap (λ (n : ℕ). codesFor i ++ replicate n anyNumber) m) ∙
+        ap (λ (ys : List ℕ). set ys (position (level i)) anyLevel) (e ∙ ap (λ (n : ℕ). codesFor i ++ replicate n anyNumber) m) ∙
         (level-set (codesFor i) i (2 * (parameterCount - suc i)) (codes-length i) ∙
         (ap (λ (xs : List ℕ). xs ++ replicate (2 * (parameterCount - suc i)) anyNumber) (sym (codes-more i)) ∙ ap begun (sym (add-one i))))
 
@@ -115,7 +120,7 @@ module _ (a c : ℕ) where
 
 pub ruleset beyond = (code-beyond, put-beyond)
 
-pub ruleset narrowing = (narrow-none, narrow-some)
+pub ruleset restricting = (restrict-none, restrict-some)
 
 pub ruleset telling = (tell-outside, tell-other, tell-any, tell-same)
 

@@ -8,7 +8,7 @@ use lib.Bits.{bitAnd}
 use Rattle.base.specs.Test.{pick}
 use Rattle.state.specs.declared.Range.{Range}
 use Rattle.state.specs.Parameter.{parameterCount}
-use Rattle.state.specs.Field.{Field, address, access, phase, keypad, flow, changed, reset, powerfail, recipe, preset, raw, number, value, level, position, fieldRange, fieldsFor}
+use Rattle.state.specs.Field.{Field, address, access, number, position, fieldRange, fieldsFor}
 use Rattle.state.specs.Valid.{within}
 use Rattle.state.specs.Event.{nextNumber}
 use Rattle.knowledge.specs.declared.Knowledge.{Knowledge}
@@ -27,15 +27,15 @@ abbrev pub recoded : ℕ → ℕ → Knowledge → Knowledge
 recoded p c k = record { alive = k .alive; codes = set (k .codes) p c }
 
 -- ---- cuts: what is left of a set
-unfoldable pub narrowed : ℕ → ℕ → Knowledge → Knowledge
-narrowed p m k = pick (eqb (bitAnd (codeAt p k) m) 0) (dead k) (recoded p (bitAnd (codeAt p k) m) k)
+unfoldable pub restricted : ℕ → ℕ → Knowledge → Knowledge
+restricted p m k = pick (eqb (bitAnd (codeAt p k) m) 0) (dead k) (recoded p (bitAnd (codeAt p k) m) k)
 
 unfoldable pub told : ℕ → Range → ℕ → Knowledge → Knowledge
 told p range n k = pick (within range n && only (codeAt p k) n) (recoded p n k) (dead k)
 
 -- the field passes a test (several), the field holds n (single)
 abbrev pub passing : Field → (ℕ → Bool) → Knowledge → Knowledge
-passing f p k = narrowed (position f) (maskIn f p) k
+passing f p k = restricted (position f) (maskIn f p) k
 
 abbrev pub holding : Field → ℕ → Knowledge → Knowledge
 holding f n k = told (position f) (fieldRange f) n k
@@ -48,22 +48,10 @@ becoming f n k = recoded (position f) (alone f n) k
 unfoldable pub advanced : Knowledge → Knowledge
 advanced k = recoded (position number) (pick (eqb (codeAt (position number) k) anyNumber) anyNumber (nextNumber (codeAt (position number) k))) k
 
--- ---- at the start the address and the access are known, and nothing else
-abbrev pub startCode : ℕ → ℕ → Field → ℕ
-startCode a c address = a
-startCode a c access = c
-startCode a c phase = any phase
-startCode a c keypad = any keypad
-startCode a c flow = any flow
-startCode a c changed = any changed
-startCode a c reset = any reset
-startCode a c powerfail = any powerfail
-startCode a c recipe = any recipe
-startCode a c preset = any preset
-startCode a c raw = any raw
-startCode a c number = any number
-startCode a c (value i) = any (value i)
-startCode a c (level i) = any (level i)
+-- ---- nothing is known
+abbrev pub unknown : Knowledge
+unknown = record { alive = true; codes = map any (fieldsFor parameterCount) }
 
+-- at the start the address and the access are known, and nothing else
 unfoldable pub start : ℕ → ℕ → Knowledge
-start a c = record { alive = true; codes = map (startCode a c) (fieldsFor parameterCount) }
+start a c = recoded (position access) c (recoded (position address) a unknown)

@@ -1,10 +1,11 @@
 // What is known of a controller's record: one set for each field, as a code at the field's position.
 use base::is_between;
+use state::NUMBER_RANGE;
 use state::PARAMETERS;
-use state::RECIPES;
+use state::RECIPE_RANGE;
 use state::Range;
 ghost use mathlib.Core.Path.{_≡_};
-ghost use Rattle.knowledge.specs.Knowledge.{codeAt, dead, recoded, narrowed, told, advanced, start};
+ghost use Rattle.knowledge.specs.Knowledge.{codeAt, dead, recoded, restricted, told, advanced, start};
 
 // The fields' positions; a parameter has its value and its level behind one another.
 pub const ADDRESS: usize = 0;
@@ -31,9 +32,9 @@ pub const RAW: usize = 10;
 
 pub const NUMBER: usize = 11;
 
-pub const VALUES: usize = 12;
+pub const VALUES: usize = NUMBER + 1;
 
-pub const LEVELS: usize = 13;
+pub const LEVELS: usize = VALUES + 1;
 
 pub const FIELDS: usize = VALUES + 2 * PARAMETERS;
 
@@ -45,10 +46,11 @@ pub const ALL_PHASES: u32 = 0x1f;
 
 pub const OFF_OR_ON: u32 = 0x3;
 
-pub const ALL_RECIPES: u32 = 0x1fe;
+// Recipes count from 1: bit 0 is clear, and there is room for 31.
+pub const ALL_RECIPES: u32 = ((1 << LAST_RECIPE) - 1) << 1;
 
 // The last recipe: no field with a set goes beyond it.
-pub const LAST_RECIPE: u32 = RECIPES as u32;
+pub const LAST_RECIPE: u32 = RECIPE_RANGE.high;
 
 pub const ALL_LEVELS: u32 = 0xf;
 
@@ -129,8 +131,8 @@ impl Knowledge {
     }
 
     // A field of few numbers is in the mask.
-    pub fn narrow(self, at: usize, mask: u32) -> Knowledge
-        ensures { λ k. ⌜ k ≡ narrowed at mask self ⌝ }
+    pub fn restrict(self, at: usize, mask: u32) -> Knowledge
+        ensures { λ k. ⌜ k ≡ restricted at mask self ⌝ }
     {
         let left = self.code(at) & mask;
         if left == 0 {
@@ -153,7 +155,7 @@ impl Knowledge {
         self.put(at, n)
     }
 
-    // The batch number goes on by one, 9999 to 1.
+    // The batch number goes on by one, the last to the first.
     pub fn advance(self) -> Knowledge
         ensures { λ k. ⌜ k ≡ advanced self ⌝ }
     {
@@ -161,9 +163,9 @@ impl Knowledge {
         if code == ANY {
             return self.put(NUMBER, ANY);
         }
-        if code < 9999 {
+        if code < NUMBER_RANGE.high {
             return self.put(NUMBER, code + 1);
         }
-        self.put(NUMBER, 1)
+        self.put(NUMBER, NUMBER_RANGE.low)
     }
 }

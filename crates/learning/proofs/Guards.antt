@@ -1,55 +1,55 @@
--- Learning from refusals is exact: a record is possible after guards were passed, or one was met, exactly if it was possible before and
+-- Learning from refusals is exact: a record is possible after guards were passed, or one refused, exactly if it was possible before and
 -- the guards decide so for it. By induction on the guards, each of which cuts one field's set. Assumes nothing.
 use Prim.Native.Nat.{ℕ, _<_}
-use mathlib.Core.Bool.{Bool, true, false, not, _&&_}
+use mathlib.Core.Bool.{Bool, true, false, not, _&&_, or-true}
 use mathlib.Core.Path.{_≡_, refl, sym, ap, subst, _∙_}
 use mathlib.Core.List.{List, [], _∷_}
 use native.Mathlib.Omega.{arith}
-use lib.Dec.{eqb, leb}
-use borrow.Author.Tests.{eq-eqb, ne-eqb, eqb-true, eqb-false, ltb-true}
-use Rattle.base.specs.Test.{pick}
-use Rattle.base.proofs.Tests.{by-test, and-left, and-right}
+use lib.Dec.{eqb}
+use borrow.Author.Tests.{eq-eqb, ne-eqb, eqb-true, eqb-false}
+use Rattle.base.specs.Test.{pick, member}
+use Rattle.base.proofs.Tests.{by-test, and-yes, and-left, and-right}
 use Rattle.state.specs.declared.Record.{Record}
-use Rattle.state.specs.Parameter.{parameterCount, rangeAt}
-use Rattle.state.specs.Field.{phase, level, get}
-use Rattle.state.specs.Valid.{within}
+use Rattle.state.specs.Field.{Field, phase, keypad, level, get}
 use Rattle.state.proofs.Fields.{Held}
-use Rattle.command.specs.declared.Request.{Request}
-use Rattle.command.specs.declared.Request.the-variants.{Unknown, Malformed, NotServed, Status, Codes, Number, Recipe, Composition, Raw, Value, Level, SetValue, SetLevel, SelectRecipe, SetBatch, Start, Stop, End, ClearReset, ClearChanged}
-use Rattle.command.specs.Answer.{Verdict, NO, accepted}
-use Rattle.command.specs.Request.{refusedUnless, listed, andThen, placeFor, byItself, Guard, keypadGuard, guards, guarded}
-use Rattle.command.proofs.Applying.{first-passed, test-passed}
+use Rattle.command.specs.Commands.{Arguments}
+use Rattle.command.specs.Refusals.{Row, byText, byArguments, byField, rowNumber, refusals}
+use Rattle.command.specs.Answer.{NO, accepted}
+use Rattle.command.specs.Request.{Guard, guardsIn, guarded}
+use Rattle.command.proofs.Fits.{Sound}
 use Rattle.knowledge.specs.declared.Knowledge.{Knowledge}
 use Rattle.knowledge.specs.Sets.{several, kindOf}
 use Rattle.knowledge.specs.Knowledge.{passing}
 use Rattle.knowledge.proofs.Possible.{Possible, Kept}
 use Rattle.knowledge.proofs.Cut.{dead-none, dead-kept, passing-told, passing-left, passing-kept}
-use Rattle.learning.specs.Learn.{passed, met}
+use Rattle.learning.specs.Learn.{passed, refusedBy}
 
 -- ---- guards that the laws hold for
 
--- a guard that looks at one of the record's fields, whose set is a mask, and has a refusal number of two digits
-pub record FineGuard (g : Guard) : Type 0 where
-  pub held : Held (g .field)
-  pub kind : kindOf (g .field) ≡ several
-  pub small : g .refusal < 100
-
-abbrev pub Fine : List Guard → Type 0
-Fine [] = Unit {0}
-Fine (g ∷ gs) = FineGuard g × Fine gs
+-- one that looks at one of the record's fields, whose set is a mask, and has a refusal number of two digits
+pub record Fine (m : ℕ) (f : Field) : Type 0 where
+  pub held : Held f
+  pub kind : kindOf f ≡ several
+  pub small : m < 100
 
 -- none has the refusal number n
 abbrev without : ℕ → List Guard → Bool
 without n [] = true
 without n (g ∷ gs) = not (eqb n (g .refusal)) && without n gs
 
--- no two have one refusal number
-abbrev distinct : List Guard → Bool
-distinct [] = true
-distinct (g ∷ gs) = without (g .refusal) gs && distinct gs
+-- each is so, and no two have one refusal number
+abbrev pub AllFine : List Guard → Type 0
+AllFine [] = Unit {0}
+AllFine (g ∷ gs) = Fine (g .refusal) (g .field) × (without (g .refusal) gs ≡ true) × AllFine gs
 
-abbrev pub Distinct : List Guard → Type 0
-Distinct gs = distinct gs ≡ true
+-- one of two, by a test
+pub from-pick : {A P : Type 0} (Q : A → Type 0) (b : Bool) (x y : A) → (b ≡ true → Q x → P) → (b ≡ false → Q y → P) → Q (pick b x y) → P
+from-pick Q true x y f g = f refl
+from-pick Q false x y f g = g refl
+
+pub to-pick : {A : Type 0} (Q : A → Type 0) (b : Bool) (x y : A) → (b ≡ true → Q x) → (b ≡ false → Q y) → Q (pick b x y)
+to-pick Q true x y f g = f refl
+to-pick Q false x y f g = g refl
 
 -- ---- the guards' verdict, by the first guard
 not-true : (b : Bool) → not b ≡ true → b ≡ false
@@ -76,13 +76,13 @@ module _ (g : Guard) (gs : List Guard) (r : Record) where
 
 -- a refusal has the number of a guard
 module _ (r : Record) (n : ℕ) where
-  pub fine-below : (gs : List Guard) → Fine gs → guarded gs r ≡ NO n → n < 100
+  pub fine-below : (gs : List Guard) → AllFine gs → guarded gs r ≡ NO n → n < 100
   unfolding guarded
   fine-below [] fine e = no-number n e
   fine-below (g ∷ gs) fine e =
       by-test (refuses g r)
       (λ h. subst (λ (m : ℕ). m < 100) (same-number (g .refusal) n (sym (refused-here g gs r h) ∙ e)) (fine .0 .small))
-      (λ h. fine-below gs (fine .1) (sym (refused-later g gs r h) ∙ e))
+      (λ h. fine-below gs (fine .2) (sym (refused-later g gs r h) ∙ e))
 
   not-without : (gs : List Guard) → without n gs ≡ true → guarded gs r ≡ NO n → ⊥
   unfolding guarded
@@ -95,23 +95,21 @@ module _ (r : Record) (n : ℕ) where
       (λ h. not-without gs (and-right (not (eqb n (g .refusal))) (without n gs) w) (sym (refused-later g gs r h) ∙ e))
 
 -- so the first guard refuses exactly if the number is its own
-first-refuses : (g : Guard) (gs : List Guard) (r : Record) (n : ℕ) → Distinct (g ∷ gs) → guarded (g ∷ gs) r ≡ NO n
+first-refuses : (g : Guard) (gs : List Guard) (r : Record) (n : ℕ) → without (g .refusal) gs ≡ true → guarded (g ∷ gs) r ≡ NO n
     → refuses g r ≡ eqb n (g .refusal)
-first-refuses g gs r n different e =
+first-refuses g gs r n other e =
     by-test (refuses g r) (λ h. h ∙ sym (eq-eqb n (g .refusal) (sym (same-number (g .refusal) n (sym (refused-here g gs r h) ∙ e)))))
     (λ h.
     h
     ∙ sym
     (ne-eqb n (g .refusal)
-    (λ same.
-    not-without r n gs (subst (λ (m : ℕ). without m gs ≡ true) (sym same) (and-left (without (g .refusal) gs) (distinct gs) different))
-    (sym (refused-later g gs r h) ∙ e))))
+    (λ same. not-without r n gs (subst (λ (m : ℕ). without m gs ≡ true) (sym same) other) (sym (refused-later g gs r h) ∙ e))))
 
 -- ---- one guard's cut: it does not refuse
 abbrev spared : Guard → Knowledge → Knowledge
 spared g k = passing (g .field) (λ n. not (g .refuses n)) k
 
-module _ {a c : ℕ} (g : Guard) (k : Knowledge) (kept : Kept a c k) (fine : FineGuard g) where
+module _ {a c : ℕ} (g : Guard) (k : Knowledge) (kept : Kept a c k) (fine : Fine (g .refusal) (g .field)) where
   spared-told : (r : Record) → Possible (spared g k) r → Possible k r × (refuses g r ≡ false)
   spared-told r t =
       let (was, h) = passing-told k r (g .field) (λ n. not (g .refuses n)) (kept .full) (fine .held) (fine .kind) t in
@@ -124,126 +122,105 @@ module _ {a c : ℕ} (g : Guard) (k : Knowledge) (kept : Kept a c k) (fine : Fin
   spared-kept = passing-kept k (g .field) (λ n. not (g .refuses n)) kept (fine .held) (fine .kind)
 
 -- ---- all guards are passed
-pub passed-told : {a c : ℕ} (gs : List Guard) (k : Knowledge) (r : Record) → Kept a c k → Fine gs → Possible (passed gs k) r
+pub passed-told : {a c : ℕ} (gs : List Guard) (k : Knowledge) (r : Record) → Kept a c k → AllFine gs → Possible (passed gs k) r
     → Possible k r × (guarded gs r ≡ accepted)
-unfolding guarded
+unfolding guarded passed
 passed-told [] k r kept fine t = (t, refl)
 passed-told (g ∷ gs) k r kept fine t =
-    let (rest, e) = passed-told gs (spared g k) r (spared-kept g k kept (fine .0)) (fine .1) t in
+    let (rest, e) = passed-told gs (spared g k) r (spared-kept g k kept (fine .0)) (fine .2) t in
     let (was, h) = spared-told g k kept (fine .0) r rest in
     (was, refused-later g gs r h ∙ e)
 
-pub passed-left : {a c : ℕ} (gs : List Guard) (k : Knowledge) (r : Record) → Kept a c k → Fine gs → Possible k r → guarded gs r ≡ accepted
+pub passed-left : {a c : ℕ} (gs : List Guard) (k : Knowledge) (r : Record) → Kept a c k → AllFine gs → Possible k r → guarded gs r ≡ accepted
     → Possible (passed gs k) r
+unfolding passed
 passed-left [] k r kept fine t e = t
 passed-left (g ∷ gs) k r kept fine t e =
     by-test (refuses g r) (λ h. no-number (g .refusal) (sym e ∙ refused-here g gs r h))
-    (λ h. passed-left gs (spared g k) r (spared-kept g k kept (fine .0)) (fine .1) (spared-left g k kept (fine .0) r t h) (sym (refused-later g gs r h) ∙ e))
+    (λ h. passed-left gs (spared g k) r (spared-kept g k kept (fine .0)) (fine .2) (spared-left g k kept (fine .0) r t h) (sym (refused-later g gs r h) ∙ e))
 
-pub passed-kept : {a c : ℕ} (gs : List Guard) (k : Knowledge) → Kept a c k → Fine gs → Kept a c (passed gs k)
+pub passed-kept : {a c : ℕ} (gs : List Guard) (k : Knowledge) → Kept a c k → AllFine gs → Kept a c (passed gs k)
+unfolding passed
 passed-kept [] k kept fine = kept
-passed-kept (g ∷ gs) k kept fine = passed-kept gs (spared g k) (spared-kept g k kept (fine .0)) (fine .1)
+passed-kept (g ∷ gs) k kept fine = passed-kept gs (spared g k) (spared-kept g k kept (fine .0)) (fine .2)
 
--- ---- the guard numbered n is met
-
--- one of two, by a test
-pub from-pick : {A P : Type 0} (Q : A → Type 0) (b : Bool) (x y : A) → (b ≡ true → Q x → P) → (b ≡ false → Q y → P) → Q (pick b x y) → P
-from-pick Q true x y f g = f refl
-from-pick Q false x y f g = g refl
-
-pub to-pick : {A : Type 0} (Q : A → Type 0) (b : Bool) (x y : A) → (b ≡ true → Q x) → (b ≡ false → Q y) → Q (pick b x y)
-to-pick Q true x y f g = f refl
-to-pick Q false x y f g = g refl
-
-pub met-told : {a c : ℕ} (n : ℕ) (gs : List Guard) (k : Knowledge) (r : Record) → Kept a c k → Fine gs → Possible (met n gs k) r
+-- ---- the guard numbered n is the first that refuses
+pub refused-told : {a c : ℕ} (n : ℕ) (gs : List Guard) (k : Knowledge) (r : Record) → Kept a c k → AllFine gs → Possible (refusedBy n gs k) r
     → Possible k r × (guarded gs r ≡ NO n)
-met-told n [] k r kept fine t = absurd (dead-none k r t)
-met-told n (g ∷ gs) k r kept fine t =
-    from-pick (λ j. Possible j r) (eqb n (g .refusal)) (passing (g .field) (g .refuses) k) (met n gs (spared g k))
+unfolding refusedBy
+refused-told n [] k r kept fine t = absurd (dead-none k r t)
+refused-told n (g ∷ gs) k r kept fine t =
+    from-pick (λ j. Possible j r) (eqb n (g .refusal)) (passing (g .field) (g .refuses) k) (refusedBy n gs (spared g k))
     (λ same here.
     let (was, h) = passing-told k r (g .field) (g .refuses) (kept .full) (fine .0 .held) (fine .0 .kind) here in
     (was, refused-here g gs r h ∙ ap NO (sym (eqb-true n (g .refusal) same))))
     (λ other later.
-    let (rest, e) = met-told n gs (spared g k) r (spared-kept g k kept (fine .0)) (fine .1) later in
+    let (rest, e) = refused-told n gs (spared g k) r (spared-kept g k kept (fine .0)) (fine .2) later in
     let (was, h) = spared-told g k kept (fine .0) r rest in
     (was, refused-later g gs r h ∙ e)) t
 
-pub met-left : {a c : ℕ} (n : ℕ) (gs : List Guard) (k : Knowledge) (r : Record) → Kept a c k → Fine gs → Distinct gs → Possible k r
-    → guarded gs r ≡ NO n → Possible (met n gs k) r
-unfolding guarded
-met-left n [] k r kept fine different t e = no-number n e
-met-left n (g ∷ gs) k r kept fine different t e =
-    let so = first-refuses g gs r n different e in
-    to-pick (λ j. Possible j r) (eqb n (g .refusal)) (passing (g .field) (g .refuses) k) (met n gs (spared g k))
+pub refused-left : {a c : ℕ} (n : ℕ) (gs : List Guard) (k : Knowledge) (r : Record) → Kept a c k → AllFine gs → Possible k r → guarded gs r ≡ NO n
+    → Possible (refusedBy n gs k) r
+unfolding guarded refusedBy
+refused-left n [] k r kept fine t e = no-number n e
+refused-left n (g ∷ gs) k r kept fine t e =
+    let so = first-refuses g gs r n (fine .1) e in
+    to-pick (λ j. Possible j r) (eqb n (g .refusal)) (passing (g .field) (g .refuses) k) (refusedBy n gs (spared g k))
     (λ same. passing-left k r (g .field) (g .refuses) (kept .full) (fine .0 .held) (fine .0 .kind) t (so ∙ same))
     (λ other.
-    met-left n gs (spared g k) r (spared-kept g k kept (fine .0)) (fine .1) (and-right (without (g .refusal) gs) (distinct gs) different)
-    (spared-left g k kept (fine .0) r t (so ∙ other)) (sym (refused-later g gs r (so ∙ other)) ∙ e))
+    refused-left n gs (spared g k) r (spared-kept g k kept (fine .0)) (fine .2) (spared-left g k kept (fine .0) r t (so ∙ other))
+    (sym (refused-later g gs r (so ∙ other)) ∙ e))
 
-pub met-kept : {a c : ℕ} (n : ℕ) (gs : List Guard) (k : Knowledge) → Kept a c k → Fine gs → Kept a c (met n gs k)
-met-kept n [] k kept fine = dead-kept k kept
-met-kept {a} {c} n (g ∷ gs) k kept fine =
-    to-pick (Kept a c) (eqb n (g .refusal)) (passing (g .field) (g .refuses) k) (met n gs (spared g k))
+pub refused-kept : {a c : ℕ} (n : ℕ) (gs : List Guard) (k : Knowledge) → Kept a c k → AllFine gs → Kept a c (refusedBy n gs k)
+unfolding refusedBy
+refused-kept n [] k kept fine = dead-kept k kept
+refused-kept {a} {c} n (g ∷ gs) k kept fine =
+    to-pick (Kept a c) (eqb n (g .refusal)) (passing (g .field) (g .refuses) k) (refusedBy n gs (spared g k))
     (λ same. passing-kept k (g .field) (g .refuses) kept (fine .0 .held) (fine .0 .kind))
-    (λ other. met-kept n gs (spared g k) (spared-kept g k kept (fine .0)) (fine .1))
+    (λ other. refused-kept n gs (spared g k) (spared-kept g k kept (fine .0)) (fine .2))
 
--- ---- the guards of a request
-pub place-listed : (i : ℕ) (v : Verdict) → andThen (refusedUnless (listed i) 4) v ≡ accepted → i < parameterCount
-place-listed i v h = ltb-true i parameterCount (test-passed (listed i) 4 (first-passed (refusedUnless (listed i) 4) v h))
+-- ---- the guards that rows give for a code c with arguments x
+module _ (c : ℕ) (x : Arguments) where
+  -- no row has the number n
+  abbrev unnumbered : ℕ → List Row → Bool
+  unnumbered n [] = true
+  unnumbered n (row ∷ rows) = not (eqb n (rowNumber row)) && unnumbered n rows
 
-keypad-fine : FineGuard keypadGuard
-keypad-fine = record { held = omega arith; kind = refl; small = omega arith }
+  -- those that look at a field of the record do it as above
+  abbrev FineRows : List Row → Type 0
+  FineRows [] = Unit {0}
+  FineRows (byText m p ∷ rows) = FineRows rows
+  FineRows (byArguments m p ∷ rows) = FineRows rows
+  FineRows (byField m codes f p ∷ rows) = (member c codes ≡ true → Fine m (f x)) × (unnumbered m rows ≡ true) × FineRows rows
 
-level-fine : {p : ℕ → Bool} (i : ℕ) → i < parameterCount → FineGuard (record { refusal = 7; field = level i; refuses = p })
-level-fine i l = record { held = omega arith; kind = refl; small = omega arith }
+  module _ (a : ℕ) where
+    rows-without : (n : ℕ) (rows : List Row) → unnumbered n rows ≡ true → without n (guardsIn rows c x a) ≡ true
+    unfolding guardsIn
+    rows-without n [] h = refl
+    rows-without n (byText m p ∷ rows) h = rows-without n rows (and-right (not (eqb n m)) (unnumbered n rows) h)
+    rows-without n (byArguments m p ∷ rows) h = rows-without n rows (and-right (not (eqb n m)) (unnumbered n rows) h)
+    rows-without n (byField m codes f p ∷ rows) h =
+        let rest = rows-without n rows (and-right (not (eqb n m)) (unnumbered n rows) h) in
+        to-pick (λ gs. without n gs ≡ true) (member c codes) _ _ (λ i. and-yes (not (eqb n m)) _ (and-left (not (eqb n m)) (unnumbered n rows) h) rest) (λ i. rest)
 
-phase-fine : {p : ℕ → Bool} → FineGuard (record { refusal = 5; field = phase; refuses = p })
-phase-fine = record { held = omega arith; kind = refl; small = omega arith }
+    rows-fine : (rows : List Row) → FineRows rows → AllFine (guardsIn rows c x a)
+    unfolding guardsIn
+    rows-fine [] h = tt
+    rows-fine (byText m p ∷ rows) h = rows-fine rows h
+    rows-fine (byArguments m p ∷ rows) h = rows-fine rows h
+    rows-fine (byField m codes f p ∷ rows) h =
+        to-pick AllFine (member c codes) _ _ (λ i. (h .0 i, rows-without m rows (h .1), rows-fine rows (h .2))) (λ i. rows-fine rows (h .2))
 
-pub guards-fine : (c : ℕ) (q : Request) → byItself q ≡ accepted → Fine (guards c q)
-guards-fine c Unknown h = tt
-guards-fine c Malformed h = tt
-guards-fine c NotServed h = tt
-guards-fine c Status h = tt
-guards-fine c Codes h = tt
-guards-fine c Number h = tt
-guards-fine c Recipe h = tt
-guards-fine c Composition h = tt
-guards-fine c Raw h = tt
-guards-fine c (Value p) h = tt
-guards-fine c (Level p) h = tt
-guards-fine c (SetValue p n) h =
-    let l = place-listed (placeFor p) (refusedUnless (within (rangeAt (placeFor p)) n) 6) h in
-    (keypad-fine, (level-fine (placeFor p) l, (phase-fine, tt)))
-guards-fine c (SetLevel p n) h =
-    let l = place-listed (placeFor p) (refusedUnless (leb n 3) 6) h in
-    (keypad-fine, (level-fine (placeFor p) l, tt))
-guards-fine c (SelectRecipe n) h = (keypad-fine, (phase-fine, tt))
-guards-fine c (SetBatch n) h = (keypad-fine, (phase-fine, tt))
-guards-fine c Start h = (keypad-fine, (phase-fine, tt))
-guards-fine c Stop h = (phase-fine, tt)
-guards-fine c End h = (keypad-fine, (phase-fine, tt))
-guards-fine c ClearReset h = (keypad-fine, tt)
-guards-fine c ClearChanged h = (keypad-fine, tt)
-
-pub guards-distinct : (c : ℕ) (q : Request) → Distinct (guards c q)
-guards-distinct c Unknown = refl
-guards-distinct c Malformed = refl
-guards-distinct c NotServed = refl
-guards-distinct c Status = refl
-guards-distinct c Codes = refl
-guards-distinct c Number = refl
-guards-distinct c Recipe = refl
-guards-distinct c Composition = refl
-guards-distinct c Raw = refl
-guards-distinct c (Value p) = refl
-guards-distinct c (Level p) = refl
-guards-distinct c (SetValue p n) = refl
-guards-distinct c (SetLevel p n) = refl
-guards-distinct c (SelectRecipe n) = refl
-guards-distinct c (SetBatch n) = refl
-guards-distinct c Start = refl
-guards-distinct c Stop = refl
-guards-distinct c End = refl
-guards-distinct c ClearReset = refl
-guards-distinct c ClearChanged = refl
+    -- the refusals of the table
+    pub guards-fine : Sound c x → AllFine (guardsIn refusals c x a)
+    guards-fine sound =
+        let one : (m : ℕ) (f : Field) → Held f → kindOf f ≡ several → m < 100 → Fine m f = λ m f h e l. record { held = h; kind = e; small = l } in
+        rows-fine refusals (
+          (λ i. one 2 keypad (omega arith) refl (omega arith)),
+          refl,
+          (
+            (λ i. let l = sound .placed (simp (i, or-true)) in one 7 (level (x .place)) (omega arith) refl (omega arith)),
+            refl,
+            ((λ i. one 5 phase (omega arith) refl (omega arith)), refl, tt),
+          ),
+        )

@@ -1,28 +1,42 @@
--- One law for each return of the function that learns what an accepted request changes. Assumes nothing.
-use Prim.Native.Nat.{ℕ, _+_, _*_}
-use mathlib.Core.Path.{_≡_, sym, ap, _∙_}
-use Rattle.command.specs.declared.Request.{Request}
+-- One law for each change that an accepted request makes, and for the request. Assumes nothing.
+use Prim.Native.Nat.{ℕ, _+_, _*_, _≤_}
+use mathlib.Core.Path.{_≡_, refl, sym, ap, _∙_}
+use mathlib.Core.List.{List, [], _∷_}
+use lib.ListN.{length}
+use Rattle.state.specs.Parameter.{parameterCount}
+use Rattle.state.specs.Field.{Field, value, position}
+use Rattle.command.specs.declared.Writing.{Writing}
+use Rattle.command.specs.Commands.{Change, becomes, nextBatch}
+use Rattle.command.specs.Request.{changesOf, writingAs}
 use Rattle.knowledge.specs.declared.Knowledge.{Knowledge}
-use Rattle.knowledge.specs.Knowledge.{recoded}
+use Rattle.knowledge.specs.Sets.{alone}
+use Rattle.knowledge.specs.Knowledge.{recoded, becoming, advanced}
+use Rattle.showing.specs.Shown.{offsetOf}
+use Rattle.showing.proofs.Places.{put-placed}
 use Rattle.learning.specs.Learn.{moved}
 
--- ---- a request by its cases
-pub moved-as : (q r : Request) (k s : Knowledge) → q ≡ r → s ≡ moved r k → s ≡ moved q k
-moved-as q r k s e w = w ∙ ap (λ (x : Request). moved x k) (sym e)
+-- the changes of the request that was matched
+pub moved-as : (q p : Writing) (k s : Knowledge) → q ≡ p → s ≡ moved (changesOf (writingAs p)) k → s ≡ moved (changesOf (writingAs q)) k
+moved-as q p k s e h = h ∙ ap (λ (x : Writing). moved (changesOf (writingAs x)) k) (sym e)
 
--- ---- one move behind another
-module _ (s t u : Knowledge) (e : t ≡ u) where
-  pub recoded-then : (p c : ℕ) → s ≡ recoded p c t → s ≡ recoded p c u
-  recoded-then p c w = w ∙ ap (recoded p c) e
+-- ---- one change behind others
+pub none-moved : (k : Knowledge) → k ≡ moved [] k
+unfolding moved
+none-moved k = refl
 
-  -- at the place of a parameter, o behind that of the first
-  pub value-then : (o i c : ℕ) → o ≡ 2 * i → s ≡ recoded (12 + o) c t → s ≡ recoded (12 + 2 * i) c u
-  value-then o i c f w = w ∙ ap (recoded (12 + o) c) e ∙ ap (λ (x : ℕ). recoded (12 + x) c u) f
+module _ (cs : List Change) (k t s : Knowledge) (before : t ≡ moved cs k) where
+  pub field-moved : (f : Field) (n m : ℕ) → m ≡ alone f n → s ≡ recoded (position f) m t → s ≡ moved (becomes f n ∷ cs) k
+  unfolding moved becoming
+  field-moved f n m e h = h ∙ (ap (λ (x : ℕ). recoded (position f) x t) e ∙ ap (becoming f n) before)
 
-pub level-moved : (s k : Knowledge) (o i m l : ℕ) → o ≡ 2 * i → m ≡ l → s ≡ recoded (13 + o) m k → s ≡ recoded (13 + 2 * i) l k
-level-moved s k o i m l f g w = w ∙ ap (λ (x : ℕ). recoded (13 + x) m k) f ∙ ap (λ (x : ℕ). recoded (13 + 2 * i) x k) g
+  -- at a place, by its offset
+  pub place-moved : (f : Field) (i n m o first : ℕ) → position f ≡ first + 2 * i → position (value 0) ≤ first → o ≡ offsetOf i → m ≡ alone f n
+      → length (t .codes) ≡ position (value parameterCount) → s ≡ recoded (first + o) m t → s ≡ moved (becomes f n ∷ cs) k
+  place-moved f i n m o first p l y e full h =
+      field-moved f n m e (h ∙ (ap (λ (x : ℕ). recoded (first + x) m t) y ∙ (put-placed t full m first i l ∙ ap (λ (x : ℕ). recoded x m t) (sym p))))
 
-pub recipe-moved : (s k : Knowledge) (m l : ℕ) → m ≡ l → s ≡ recoded 8 m k → s ≡ recoded 8 l k
-recipe-moved s k m l g w = w ∙ ap (λ (x : ℕ). recoded 8 x k) g
+  pub batch-moved : s ≡ advanced t → s ≡ moved (nextBatch ∷ cs) k
+  unfolding moved
+  batch-moved h = h ∙ ap advanced before
 
-pub ruleset moving = (moved-as, recoded-then, value-then, level-moved, recipe-moved)
+pub ruleset moving = (moved-as, none-moved, field-moved, batch-moved, refl)

@@ -1,127 +1,174 @@
 -- One law for each return of the functions that learn from a refusal, and from none. Assumes nothing.
-use Prim.Native.Nat.{ℕ, _+_, _*_, _≤_}
+use Prim.Native.Nat.{ℕ, _+_, _-_, _≤_}
 use mathlib.Core.Bool.{Bool, true, false, not, _||_, or-true}
-use mathlib.Core.Path.{_≡_, sym, ap, _∙_}
+use mathlib.Core.Path.{_≡_, refl, sym, ap, _∙_}
+use mathlib.Core.Logic.{_⊎_, inl, inr}
+use mathlib.Core.List.{List, [], _∷_, _++_}
 use native.Mathlib.Omega.{arith}
 use lib.Dec.{eqb, ltb}
+use lib.ListN.{length}
 use borrow.Author.Tests.{eq-eqb, ne-eqb, le-ltb}
 use Rattle.base.specs.Test.{pick}
-use Rattle.state.specs.Field.{level}
-use Rattle.command.specs.declared.Request.{Request}
-use Rattle.command.specs.declared.Refusal.{Refusal}
-use Rattle.command.specs.declared.Decision.{Decision}
-use Rattle.command.specs.declared.Decision.the-variants.{Accepted, Refused}
-use Rattle.command.specs.Answer.{Verdict}
-use Rattle.command.specs.Request.{guards, byItself, refusalNumber, decisionAs}
+use Rattle.state.specs.Parameter.{parameterCount}
+use Rattle.state.specs.Field.{phase, keypad, value, level, position, fieldRange, off, on, flagNumber}
+use Rattle.command.specs.declared.Guards.{Guards}
+use Rattle.command.specs.declared.Phases.{Phases}
+use Rattle.command.specs.declared.Phases.the-variants.{Any, IdleOrDone, SetOrStopped, Running, SetStoppedOrDone}
+use Rattle.command.specs.Request.{Guard, keypadGuard, levelGuard, keypadGuards, levelGuards, phaseGuards, guardsAs}
 use Rattle.knowledge.specs.declared.Knowledge.{Knowledge}
-use Rattle.knowledge.specs.Sets.{maskFrom, maskIn}
-use Rattle.knowledge.specs.Knowledge.{dead, narrowed}
-use Rattle.learning.specs.Learn.{passed, met, refusedBy, afterRefusal}
+use Rattle.knowledge.specs.Sets.{maskFrom, maskIn, any, alone}
+use Rattle.knowledge.specs.Knowledge.{dead, restricted, passing}
+use Rattle.showing.specs.Shown.{offsetOf}
+use Rattle.showing.proofs.Places.{restrict-placed}
+use Rattle.learning.specs.Learn.{letThrough, allowedLevels, passed, refusedBy}
 
 -- ---- the levels that do not refuse a write, and those that do
-abbrev allowedBy : ℕ → Bool → ℕ
-allowedBy a above = maskIn (level 0) (λ n. not (ltb a n || above))
-
-abbrev barredBy : ℕ → Bool → ℕ
-barredBy a above = maskIn (level 0) (λ n. ltb a n || above)
-
 module _ (a : ℕ) (above : Bool) where
-  module _ (e : above ≡ true) where
-    pub allowed-above : 0 ≡ allowedBy a above
-    unfolding maskFrom
-    allowed-above = simp (e, or-true)
-
-    pub barred-above : 15 ≡ barredBy a above
-    unfolding maskFrom
-    barred-above = simp (e, or-true)
+  pub allowed-above : above ≡ true → 0 ≡ allowedLevels a above
+  unfolding maskFrom allowedLevels
+  allowed-above e = simp (e, or-true)
 
   module _ (e : above ≡ false) where
-    pub allowed-0 : a ≡ 0 → 1 ≡ allowedBy a above
-    unfolding maskFrom
+    pub allowed-0 : a ≡ 0 → 0x1 ≡ allowedLevels a above
+    unfolding maskFrom allowedLevels
     allowed-0 l = simp (e, l)
 
-    pub allowed-1 : a ≡ 1 → 3 ≡ allowedBy a above
-    unfolding maskFrom
+    pub allowed-1 : a ≡ 1 → 0x3 ≡ allowedLevels a above
+    unfolding maskFrom allowedLevels
     allowed-1 l = simp (e, l)
 
-    pub allowed-2 : a ≡ 2 → 7 ≡ allowedBy a above
-    unfolding maskFrom
+    pub allowed-2 : a ≡ 2 → 0x7 ≡ allowedLevels a above
+    unfolding maskFrom allowedLevels
     allowed-2 l = simp (e, l)
 
-    pub barred-0 : a ≡ 0 → 14 ≡ barredBy a above
-    unfolding maskFrom
-    barred-0 l = simp (e, l)
-
-    pub barred-1 : a ≡ 1 → 12 ≡ barredBy a above
-    unfolding maskFrom
-    barred-1 l = simp (e, l)
-
-    pub barred-2 : a ≡ 2 → 8 ≡ barredBy a above
-    unfolding maskFrom
-    barred-2 l = simp (e, l)
-
     -- no level is above an access of 3
-    module _ (h : 3 ≤ a) where
-      reached : (n : ℕ) → n ≤ 3 → ltb a n ≡ false
-      reached n l = le-ltb a n (omega arith)
+    pub allowed-all : fieldRange (level 0) .high ≤ a → any (level 0) ≡ allowedLevels a above
+    unfolding maskFrom allowedLevels
+    allowed-all h = simp (e, reached 0 (omega arith), reached 1 (omega arith), reached 2 (omega arith), reached 3 (omega arith))
+      where
+        reached : (n : ℕ) → n ≤ fieldRange (level 0) .high → ltb a n ≡ false
+        reached n l = le-ltb a n (omega arith)
 
-      pub allowed-all : 15 ≡ allowedBy a above
-      unfolding maskFrom
-      allowed-all = simp (e, reached 0 (omega arith), reached 1 (omega arith), reached 2 (omega arith), reached 3 (omega arith))
+flag-not : (b : Bool) → flagNumber b + flagNumber (not b) ≡ 1
+flag-not true = refl
+flag-not false = refl
 
-      pub barred-none : 0 ≡ barredBy a above
-      unfolding maskFrom
-      barred-none = simp (e, reached 0 (omega arith), reached 1 (omega arith), reached 2 (omega arith), reached 3 (omega arith))
+others : (p : ℕ → Bool) → maskIn (level 0) p + maskIn (level 0) (λ n. not (p n)) ≡ any (level 0)
+unfolding maskFrom
+others p = omega (arith, flag-not (p 0), flag-not (p 1), flag-not (p 2), flag-not (p 3))
 
--- ---- one cut behind another
-module _ (s t u : Knowledge) (e : t ≡ u) where
-  pub dead-then : s ≡ dead t → s ≡ dead u
-  dead-then w = w ∙ ap dead e
+-- ---- a phase is needed, or not
+by-phases : (p : Phases) (n : ℕ) (k : Knowledge) → let m : ℕ = letThrough (phaseGuards p) in
+    (passed (phaseGuards p) k ≡ pick (eqb m 0) k (restricted (position phase) m k))
+    × (refusedBy n (phaseGuards p) k ≡ pick (eqb m 0) (dead k) (pick (eqb n 5) (restricted (position phase) (any phase - m) k) (dead (restricted (position phase) m k))))
+unfolding passed refusedBy maskFrom
+by-phases Any n k = (refl, refl)
+by-phases IdleOrDone n k = (refl, refl)
+by-phases SetOrStopped n k = (refl, refl)
+by-phases Running n k = (refl, refl)
+by-phases SetStoppedOrDone n k = (refl, refl)
 
-  pub narrowed-then : (p m : ℕ) → s ≡ narrowed p m t → s ≡ narrowed p m u
-  narrowed-then p m w = w ∙ ap (narrowed p m) e
+module _ (p : Phases) (k s : Knowledge) (m : ℕ) (e : m ≡ letThrough (phaseGuards p)) where
+  passed-so : s ≡ pick (eqb m 0) k (restricted (position phase) m k) → s ≡ passed (phaseGuards p) k
+  passed-so h = h ∙ (ap (λ (x : ℕ). pick (eqb x 0) k (restricted (position phase) x k)) e ∙ sym (by-phases p 0 k .0))
 
-  -- at the place of a parameter, o behind that of the first
-  pub level-then : (o i m l : ℕ) → o ≡ 2 * i → m ≡ l → s ≡ narrowed (13 + o) m t → s ≡ narrowed (13 + 2 * i) l u
-  level-then o i m l f g w = w ∙ ap (narrowed (13 + o) m) e ∙ ap (λ (x : ℕ). narrowed (13 + x) m u) f ∙ ap (λ (x : ℕ). narrowed (13 + 2 * i) x u) g
+  pub any-passed : m ≡ 0 → s ≡ k → s ≡ passed (phaseGuards p) k
+  any-passed z h = passed-so (h ∙ simp (eq-eqb m 0 z))
 
-  pub phase-then : (n m l : ℕ) → s ≡ pick (eqb n 5) (narrowed 2 m t) (dead (narrowed 2 l t)) → s ≡ pick (eqb n 5) (narrowed 2 m u) (dead (narrowed 2 l u))
-  phase-then n m l w = w ∙ ap (λ (x : Knowledge). pick (eqb n 5) (narrowed 2 m x) (dead (narrowed 2 l x))) e
+  pub some-passed : (m ≡ 0 → ⊥) → s ≡ restricted (position phase) m k → s ≡ passed (phaseGuards p) k
+  some-passed z h = passed-so (h ∙ simp (ne-eqb m 0 z))
 
--- ---- one choice by the number of the refusal
-module _ (n m : ℕ) (s t u : Knowledge) where
-  pub chosen : n ≡ m → s ≡ t → s ≡ pick (eqb n m) t u
-  chosen h e = e ∙ simp (eq-eqb n m h)
+  module _ (n : ℕ) where
+    met-so : s ≡ pick (eqb m 0) (dead k) (pick (eqb n 5) (restricted (position phase) (any phase - m) k) (dead (restricted (position phase) m k))) → s ≡ refusedBy n (phaseGuards p) k
+    met-so h = h ∙ (ap (λ (x : ℕ). pick (eqb x 0) (dead k) (pick (eqb n 5) (restricted (position phase) (any phase - x) k) (dead (restricted (position phase) x k)))) e ∙ sym (by-phases p n k .1))
 
-  pub other : (n ≡ m → ⊥) → s ≡ u → s ≡ pick (eqb n m) t u
-  other h e = e ∙ simp (ne-eqb n m h)
+    pub any-met : m ≡ 0 → s ≡ dead k → s ≡ refusedBy n (phaseGuards p) k
+    any-met z h = met-so (h ∙ simp (eq-eqb m 0 z))
 
--- ---- a request by its cases
-module _ (q r : Request) (a : ℕ) (k s : Knowledge) (e : q ≡ r) where
-  pub passed-as : s ≡ passed (guards a r) k → s ≡ passed (guards a q) k
-  passed-as w = w ∙ ap (λ (x : Request). passed (guards a x) k) (sym e)
+    pub some-met : (m ≡ 0 → ⊥) → n ≡ 5 → s ≡ restricted (position phase) (any phase - m) k → s ≡ refusedBy n (phaseGuards p) k
+    some-met z q h = met-so (h ∙ simp (ne-eqb m 0 z, eq-eqb n 5 q))
 
-  pub met-as : (n : ℕ) → s ≡ met n (guards a r) k → s ≡ met n (guards a q) k
-  met-as n w = w ∙ ap (λ (x : Request). met n (guards a x) k) (sym e)
+    pub none-met : (m ≡ 0 → ⊥) → (n ≡ 5 → ⊥) → (t : Knowledge) → t ≡ restricted (position phase) m k → s ≡ dead t → s ≡ refusedBy n (phaseGuards p) k
+    none-met z q t f h = met-so (h ∙ (ap dead f ∙ simp (ne-eqb m 0 z, ne-eqb n 5 q)))
 
--- ---- a request that was refused
-module _ (d : Decision) (q : Request) (a n : ℕ) (k s : Knowledge) (v : decisionAs d ≡ byItself q) where
-  refused-as : (w : Verdict) → decisionAs d ≡ w → s ≡ refusedBy w n (guards a q) k → s ≡ afterRefusal a q n k
-  unfolding afterRefusal
-  refused-as w e h = h ∙ ap (λ (x : Verdict). refusedBy x n (guards a q) k) (sym e ∙ v)
+pub ruleset phase-passing = (any-passed, some-passed)
 
-  pub refused-by-record : d ≡ Accepted → s ≡ met n (guards a q) k → s ≡ afterRefusal a q n k
-  refused-by-record e h = refused-as _ (ap decisionAs e) h
+pub ruleset phase-meeting = (any-met, some-met, none-met)
 
-  module _ (m : ℕ) (r : Refusal) (e : d ≡ Refused r) (f : m ≡ refusalNumber r) where
-    pub refused-so : n ≡ m → s ≡ k → s ≡ afterRefusal a q n k
-    refused-so g h = refused-as _ (ap decisionAs e) (chosen n (refusalNumber r) s k (dead k) (g ∙ f) h)
+-- ---- one guard, if it is tested
+module _ (b : Bool) (k s : Knowledge) where
+  pub keypad-passed : b ≡ true → s ≡ restricted (position keypad) (alone keypad off) k → s ≡ passed (keypadGuards b) k
+  unfolding passed maskFrom
+  keypad-passed h e = simp h e
 
-    pub refused-otherwise : (n ≡ m → ⊥) → s ≡ dead k → s ≡ afterRefusal a q n k
-    refused-otherwise g h = refused-as _ (ap decisionAs e) (other n (refusalNumber r) s k (dead k) (λ x. g (x ∙ sym f)) h)
+  pub keypad-untested : b ≡ false → s ≡ k → s ≡ passed (keypadGuards b) k
+  unfolding passed
+  keypad-untested h e = simp h e
 
-pub ruleset passing = (narrowed-then, level-then, passed-as)
+pub ruleset keypad-passing = (keypad-passed, keypad-untested)
 
-pub ruleset meeting = (dead-then, narrowed-then, level-then, phase-then, chosen, other, met-as)
+module _ (g : Guards) (a : ℕ) (k s : Knowledge) where
+  pub level-untested : g .level ≡ false → s ≡ k → s ≡ passed (levelGuards a g) k
+  unfolding passed
+  level-untested h e = simp h e
 
-pub ruleset refusing = (refused-by-record, refused-so, refused-otherwise)
+  module _ (h : g .level ≡ true) (o m : ℕ) (q : o ≡ offsetOf (g .place)) (w : m ≡ allowedLevels a (g .above))
+      (full : length (k .codes) ≡ position (value parameterCount)) where
+    restricted-so : (l i : ℕ) → l ≡ i → s ≡ restricted (position (level 0) + o) l k → s ≡ restricted (position (level (g .place))) i k
+    restricted-so l i j f =
+        f ∙ (ap (λ (x : ℕ). restricted (position (level 0) + x) l k) q ∙ (restrict-placed k full l (position (level 0)) (g .place) (omega arith) ∙ ap (λ (x : ℕ). restricted (position (level (g .place))) x k) j))
+
+    pub level-passed : s ≡ restricted (position (level 0) + o) m k → s ≡ passed (levelGuards a g) k
+    unfolding passed allowedLevels
+    level-passed e = simp h (restricted-so m _ w e)
+
+    pub level-met : (n : ℕ) → eqb n 7 ≡ true → s ≡ restricted (position (level 0) + o) (any (level 0) - m) k → s ≡ refusedBy n (levelGuards a g ++ phaseGuards (g .phases)) k
+    unfolding refusedBy allowedLevels
+    level-met n j e =
+        let z : any (level 0) - m ≡ maskIn (level 0) (λ i. ltb a i || g .above) = omega (arith, others (λ i. ltb a i || g .above)) in
+        simp (h, j) (restricted-so (any (level 0) - m) _ z e)
+
+pub others-fit : (m a : ℕ) (b : Bool) → m ≡ allowedLevels a b → m ≤ any (level 0)
+unfolding allowedLevels
+others-fit m a b e = omega (arith, others (λ i. ltb a i || b))
+
+-- ---- guards one after the other
+append-passed : (xs ys : List Guard) (k : Knowledge) → passed (xs ++ ys) k ≡ passed ys (passed xs k)
+unfolding passed
+append-passed [] ys k = refl
+append-passed (g ∷ gs) ys k = append-passed gs ys (passing (g .field) (λ n. not (g .refuses n)) k)
+
+-- one that is not tested, or has another number
+abbrev Unmet : Bool → ℕ → ℕ → Type 0
+Unmet b n m = ((b ≡ true) × (eqb n m ≡ false)) ⊎ (b ≡ false)
+
+unmet : (b : Bool) (g : Guard) (gs : List Guard) (n : ℕ) (k : Knowledge) → Unmet b n (g .refusal)
+    → refusedBy n (pick b (g ∷ []) [] ++ gs) k ≡ refusedBy n gs (passed (pick b (g ∷ []) []) k)
+unfolding passed refusedBy
+unmet b g gs n k (inl (h, q)) = simp (h, q)
+unmet b g gs n k (inr h) = simp h
+
+module _ (g : Guards) (a n : ℕ) (k s : Knowledge) where
+  abbrev phases-left : List Guard
+  phases-left = phaseGuards (g .phases)
+
+  abbrev levels-left : List Guard
+  levels-left = levelGuards a g ++ phaseGuards (g .phases)
+
+  pub all-passed : (t u : Knowledge) → t ≡ passed (keypadGuards (g .keypad)) k → u ≡ passed (levelGuards a g) t → s ≡ passed phases-left u
+      → s ≡ passed (guardsAs a g) k
+  all-passed t u e f h =
+      h ∙ (ap (passed phases-left) f ∙ (sym (append-passed (levelGuards a g) phases-left t)
+      ∙ (ap (passed levels-left) e ∙ sym (append-passed (keypadGuards (g .keypad)) levels-left k))))
+
+  pub keypad-met : g .keypad ≡ true → eqb n 2 ≡ true → s ≡ restricted (position keypad) (alone keypad on) k → s ≡ refusedBy n (guardsAs a g) k
+  unfolding refusedBy maskFrom
+  keypad-met h q e = simp (h, q) e
+
+  pub keypad-unmet : (t : Knowledge) → Unmet (g .keypad) n 2 → t ≡ passed (keypadGuards (g .keypad)) k → s ≡ refusedBy n levels-left t
+      → s ≡ refusedBy n (guardsAs a g) k
+  keypad-unmet t h f e = e ∙ (ap (refusedBy n levels-left) f ∙ sym (unmet (g .keypad) keypadGuard levels-left n k h))
+
+  pub level-unmet : (t : Knowledge) → Unmet (g .level) n 7 → t ≡ passed (levelGuards a g) k → s ≡ refusedBy n phases-left t
+      → s ≡ refusedBy n levels-left k
+  level-unmet t h f e = e ∙ (ap (refusedBy n phases-left) f ∙ sym (unmet (g .level) (levelGuard a (g .above) (g .place)) phases-left n k h))

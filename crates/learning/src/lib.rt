@@ -1,7 +1,8 @@
 // What an answered request teaches of the record.
-use command::Decision;
-use command::Digits;
+use command::Guards;
+use command::Phases;
 use command::Request;
+use command::Writing;
 use knowledge::ALL_LEVELS;
 use knowledge::ALL_PHASES;
 use knowledge::CHANGED;
@@ -9,7 +10,6 @@ use knowledge::DONE;
 use knowledge::IDLE;
 use knowledge::KEYPAD;
 use knowledge::Knowledge;
-use knowledge::LAST_RECIPE;
 use knowledge::LEVELS;
 use knowledge::OFF;
 use knowledge::ON;
@@ -24,27 +24,22 @@ use knowledge::STOPPED;
 use knowledge::VALUES;
 use showing::alone;
 use showing::offset;
+use state::LEVEL_RANGE;
+use state::RECIPE_RANGE;
+use text::Digits;
 ghost use mathlib.Core.Path.{_≡_};
-ghost use mathlib.Core.Bool.{not, _||_};
-ghost use Prim.Native.Nat.{_-_, _≤_};
-ghost use lib.Dec.{eqb, ltb};
-ghost use Rattle.base.specs.Test.{pick};
-ghost use Rattle.state.specs.Field.{Field};
-ghost use Rattle.command.specs.Request.{guards, valueGuards, levelGuards, placeFor};
-ghost use Rattle.knowledge.specs.Sets.{maskIn};
-ghost use Rattle.knowledge.specs.Knowledge.{dead, narrowed};
-ghost use Rattle.learning.specs.Learn.{passed, met, afterRefusal, moved, afterAcceptance, learnOf};
+ghost use mathlib.Core.List.{_++_};
+ghost use Prim.Native.Nat.{_≤_};
+ghost use Rattle.state.specs.Field.{phase};
+ghost use Rattle.knowledge.specs.Sets.{any};
+ghost use Rattle.command.specs.Request.{keypadGuards, levelGuards, phaseGuards, guardsAs, changesOf, writingAs, requestAs};
+ghost use Rattle.learning.specs.Learn.{letThrough, allowedLevels, passed, refusedBy, moved, afterRefusal, afterAcceptance, learnOf};
 
-// The phases in which a request is not refused.
-const IDLE_OR_DONE: u32 = IDLE + DONE;
-
-const SET_OR_STOPPED: u32 = SET + STOPPED;
-
-const ENDABLE: u32 = SET + STOPPED + DONE;
+// ---- the refusals that look at the record
 
 // The levels that do not refuse a write: those up to the access, none if the new level is above it.
 fn allowed(access: u8, above: bool) -> u32
-    ensures { λ m. ⌜ m ≡ maskIn (Field.level 0) (λ n. not (ltb access n || above)) ⌝ }
+    ensures { λ m. ⌜ m ≡ allowedLevels access above ⌝ }
 {
     if above {
         return 0;
@@ -57,209 +52,155 @@ fn allowed(access: u8, above: bool) -> u32
     }
 }
 
-fn barred(access: u8, above: bool) -> u32
-    ensures { λ m. ⌜ m ≡ maskIn (Field.level 0) (λ n. ltb access n || above) ⌝ }
+// The phases that do not refuse a write; 0 where none does.
+fn needed(phases: Phases) -> u32
+    ensures { λ m. ⌜ (m ≡ letThrough (phaseGuards phases)) × (m ≤ any phase) ⌝ }
 {
-    if above {
-        return ALL_LEVELS;
-    }
-    match access {
-        0 => 0xe,
-        1 => 0xc,
-        2 => 0x8,
-        _ => 0,
+    match phases {
+        Phases::Any => 0,
+        Phases::IdleOrDone => IDLE + DONE,
+        Phases::SetOrStopped => SET + STOPPED,
+        Phases::Running => RUNNING,
+        Phases::SetStoppedOrDone => SET + STOPPED + DONE,
     }
 }
-
-// ---- the refusals that look at the record
 
 // All of them are passed.
-fn pass(k: Knowledge, access: u8, request: Request) -> Knowledge
-    ensures { λ r. ⌜ r ≡ passed (guards access request) k ⌝ }
+fn pass_keypad(k: Knowledge, tested: bool) -> Knowledge
+    ensures { λ r. ⌜ r ≡ passed (keypadGuards tested) k ⌝ }
 {
-    match request {
-        Request::Unknown => k,
-        Request::Malformed => k,
-        Request::NotServed => k,
-        Request::Status => k,
-        Request::Codes => k,
-        Request::Number => k,
-        Request::Recipe => k,
-        Request::Composition => k,
-        Request::Raw => k,
-        Request::Value(_) => k,
-        Request::Level(_) => k,
-        Request::SetValue(code, _) => k.narrow(KEYPAD, OFF)
-            .narrow(LEVELS + offset(code), allowed(access, false))
-            .narrow(PHASE, IDLE_OR_DONE),
-        Request::SetLevel(code, level) => k.narrow(KEYPAD, OFF).narrow(
-            LEVELS + offset(code),
-            allowed(access, (access as u32) < level),
-        ),
-        Request::SelectRecipe(_) => k.narrow(KEYPAD, OFF).narrow(PHASE, IDLE_OR_DONE),
-        Request::SetBatch(_) => k.narrow(KEYPAD, OFF).narrow(PHASE, IDLE_OR_DONE),
-        Request::Start => k.narrow(KEYPAD, OFF).narrow(PHASE, SET_OR_STOPPED),
-        Request::Stop => k.narrow(PHASE, RUNNING),
-        Request::End => k.narrow(KEYPAD, OFF).narrow(PHASE, ENDABLE),
-        Request::ClearReset => k.narrow(KEYPAD, OFF),
-        Request::ClearChanged => k.narrow(KEYPAD, OFF),
+    if tested {
+        return k.restrict(KEYPAD, OFF);
     }
+    k
 }
 
-// NO05: the phase is none of these.
-fn meet_phase(k: Knowledge, phases: u32, n: u32) -> Knowledge
-    requires { ⌜ phases ≤ 31 ⌝ }
-    ensures { λ r. ⌜ r ≡ pick (eqb n 5) (narrowed 2 (31 - phases) k) (dead (narrowed 2 phases k)) ⌝ }
+fn pass_level(k: Knowledge, access: u8, guards: Guards) -> Knowledge
+    ensures { λ r. ⌜ r ≡ passed (levelGuards access guards) k ⌝ }
 {
-    if n == 5 {
-        return k.narrow(PHASE, ALL_PHASES - phases);
+    if guards.level {
+        let at = LEVELS + offset(guards.place);
+        return k.restrict(at, allowed(access, guards.above));
     }
-    k.narrow(PHASE, phases).refuted()
+    k
 }
 
-// NO02, or as above with the keypad off.
-fn meet_keypad_or_phase(k: Knowledge, phases: u32, n: u32) -> Knowledge
-    requires { ⌜ phases ≤ 31 ⌝ }
-    ensures { λ r. ⌜ r ≡ pick (eqb n 2) (narrowed 3 2 k) (pick (eqb n 5) (narrowed 2 (31 - phases) (narrowed 3 1 k)) (dead (narrowed 2 phases (narrowed 3 1 k)))) ⌝ }
+fn pass_phase(k: Knowledge, phases: Phases) -> Knowledge
+    ensures { λ r. ⌜ r ≡ passed (phaseGuards phases) k ⌝ }
 {
-    if n == 2 {
-        return k.narrow(KEYPAD, ON);
-    }
-    meet_phase(k.narrow(KEYPAD, OFF), phases, n)
-}
-
-// NO02
-fn meet_keypad(k: Knowledge, n: u32) -> Knowledge
-    ensures { λ r. ⌜ r ≡ pick (eqb n 2) (narrowed 3 2 k) (dead (narrowed 3 1 k)) ⌝ }
-{
-    if n == 2 {
-        return k.narrow(KEYPAD, ON);
-    }
-    k.narrow(KEYPAD, OFF).refuted()
-}
-
-// PC: NO02, NO07, NO05
-fn meet_value(k: Knowledge, access: u8, code: u16, n: u32) -> Knowledge
-    ensures { λ r. ⌜ r ≡ met n (valueGuards access (placeFor code)) k ⌝ }
-{
-    if n == 2 {
-        return k.narrow(KEYPAD, ON);
-    }
-    let off = k.narrow(KEYPAD, OFF);
-    let at = LEVELS + offset(code);
-    if n == 7 {
-        return off.narrow(at, barred(access, false));
-    }
-    meet_phase(off.narrow(at, allowed(access, false)), IDLE_OR_DONE, n)
-}
-
-// XC: NO02, NO07
-fn meet_level(k: Knowledge, access: u8, code: u16, level: u32, n: u32) -> Knowledge
-    ensures { λ r. ⌜ r ≡ met n (levelGuards access (placeFor code) level) k ⌝ }
-{
-    if n == 2 {
-        return k.narrow(KEYPAD, ON);
-    }
-    let off = k.narrow(KEYPAD, OFF);
-    let at = LEVELS + offset(code);
-    let above = (access as u32) < level;
-    if n == 7 {
-        return off.narrow(at, barred(access, above));
-    }
-    off.narrow(at, allowed(access, above)).refuted()
-}
-
-// The one that is numbered n is the first that applies.
-fn meet(k: Knowledge, access: u8, request: Request, n: u32) -> Knowledge
-    ensures { λ r. ⌜ r ≡ met n (guards access request) k ⌝ }
-{
-    match request {
-        Request::Unknown => k.refuted(),
-        Request::Malformed => k.refuted(),
-        Request::NotServed => k.refuted(),
-        Request::Status => k.refuted(),
-        Request::Codes => k.refuted(),
-        Request::Number => k.refuted(),
-        Request::Recipe => k.refuted(),
-        Request::Composition => k.refuted(),
-        Request::Raw => k.refuted(),
-        Request::Value(_) => k.refuted(),
-        Request::Level(_) => k.refuted(),
-        Request::SetValue(code, _) => meet_value(k, access, code, n),
-        Request::SetLevel(code, level) => meet_level(k, access, code, level, n),
-        Request::SelectRecipe(_) => meet_keypad_or_phase(k, IDLE_OR_DONE, n),
-        Request::SetBatch(_) => meet_keypad_or_phase(k, IDLE_OR_DONE, n),
-        Request::Start => meet_keypad_or_phase(k, SET_OR_STOPPED, n),
-        Request::Stop => meet_phase(k, RUNNING, n),
-        Request::End => meet_keypad_or_phase(k, ENDABLE, n),
-        Request::ClearReset => meet_keypad(k, n),
-        Request::ClearChanged => meet_keypad(k, n),
-    }
-}
-
-// The reply was NO and n.
-fn refuse(k: Knowledge, access: u8, request: Request, n: u32) -> Knowledge
-    ensures { λ r. ⌜ r ≡ afterRefusal access request n k ⌝ }
-{
-    let Decision::Refused(refusal) = command::by_itself(request) else {
-        return meet(k, access, request, n);
-    };
-    if n == command::number_of(refusal) {
+    let set = needed(phases);
+    if set == 0 {
         return k;
     }
-    k.refuted()
+    k.restrict(PHASE, set)
+}
+
+fn pass(k: Knowledge, access: u8, guards: Guards) -> Knowledge
+    ensures { λ r. ⌜ r ≡ passed (guardsAs access guards) k ⌝ }
+{
+    let phases = guards.phases;
+    let off = pass_keypad(k, guards.keypad);
+    pass_phase(pass_level(off, access, guards), phases)
+}
+
+// The one that is numbered n is the first that applies: of NO05; of NO07 and NO05; of all.
+fn refused_by_phase(k: Knowledge, phases: Phases, n: u32) -> Knowledge
+    ensures { λ r. ⌜ r ≡ refusedBy n (phaseGuards phases) k ⌝ }
+{
+    let set = needed(phases);
+    if set == 0 {
+        return k.refuted();
+    }
+    if n == 5 {
+        return k.restrict(PHASE, ALL_PHASES - set);
+    }
+    k.restrict(PHASE, set).refuted()
+}
+
+fn refused_by_level(k: Knowledge, access: u8, guards: Guards, n: u32) -> Knowledge
+    ensures { λ r. ⌜ r ≡ refusedBy n (levelGuards access guards ++ phaseGuards (guards .phases)) k ⌝ }
+{
+    if guards.level && n == 7 {
+        let levels = allowed(access, guards.above);
+        return k.restrict(LEVELS + offset(guards.place), ALL_LEVELS - levels);
+    }
+    let phases = guards.phases;
+    refused_by_phase(pass_level(k, access, guards), phases, n)
+}
+
+fn refused_by(k: Knowledge, access: u8, guards: Guards, n: u32) -> Knowledge
+    ensures { λ r. ⌜ r ≡ refusedBy n (guardsAs access guards) k ⌝ }
+{
+    if guards.keypad && n == 2 {
+        return k.restrict(KEYPAD, ON);
+    }
+    refused_by_level(pass_keypad(k, guards.keypad), access, guards, n)
 }
 
 // ---- what an accepted request changes
-fn move_on(k: Knowledge, request: Request) -> Knowledge
-    ensures { λ r. ⌜ r ≡ moved request k ⌝ }
+fn move_on(k: Knowledge, request: Writing) -> Knowledge
+    ensures { λ r. ⌜ r ≡ moved (changesOf (writingAs request)) k ⌝ }
 {
     match request {
-        Request::Unknown => k,
-        Request::Malformed => k,
-        Request::NotServed => k,
-        Request::Status => k,
-        Request::Codes => k,
-        Request::Number => k,
-        Request::Recipe => k,
-        Request::Composition => k,
-        Request::Raw => k,
-        Request::Value(_) => k,
-        Request::Level(_) => k,
-        Request::SetValue(code, value) => k.put(CHANGED, ON).put(VALUES + offset(code), value),
-        Request::SetLevel(code, level) => {
-            let only = alone(0, 3, level);
-            k.put(LEVELS + offset(code), only)
+        Writing::SetValue(place, value) => k.put(CHANGED, ON).put(VALUES + offset(place), value),
+        Writing::SetLevel(place, level) => {
+            let only = alone(LEVEL_RANGE.low, LEVEL_RANGE.high, level as u32);
+            k.put(LEVELS + offset(place), only)
         }
-        Request::SelectRecipe(recipe) => k.put(RECIPE, alone(1, LAST_RECIPE, recipe)),
-        Request::SetBatch(preset) => {
+        Writing::SelectRecipe(recipe) => {
+            let only = alone(RECIPE_RANGE.low, RECIPE_RANGE.high, recipe as u32);
+            k.put(RECIPE, only)
+        }
+        Writing::SetBatch(preset) => {
             let next = k.advance();
             next.put(RESET, ON)
                 .put(RAW, 0)
                 .put(PRESET, preset)
                 .put(PHASE, SET)
         }
-        Request::Start => k.put(PHASE, RUNNING),
-        Request::Stop => k.put(PHASE, STOPPED),
-        Request::End => k.put(PHASE, IDLE),
-        Request::ClearReset => k.put(RESET, OFF),
-        Request::ClearChanged => k.put(CHANGED, OFF),
+        Writing::Start => k.put(PHASE, RUNNING),
+        Writing::Stop => k.put(PHASE, STOPPED),
+        Writing::End => k.put(PHASE, IDLE),
+        Writing::ClearReset => k.put(RESET, OFF),
+        Writing::ClearChanged => k.put(CHANGED, OFF),
+    }
+}
+
+// ---- a request and its reply
+
+// The reply was NO and n.
+fn refuse(k: Knowledge, access: u8, request: Request, n: u32) -> Knowledge
+    ensures { λ r. ⌜ r ≡ afterRefusal access (requestAs request) n k ⌝ }
+{
+    match request {
+        Request::Refused(refusal) => {
+            if n == command::number_of(refusal) {
+                return k;
+            }
+            k.refuted()
+        }
+        Request::Read(_) => k.refuted(),
+        Request::Write(writing) => refused_by(k, access, command::guards_of(access, writing), n),
     }
 }
 
 // The reply was no refusal.
 fn accept(k: Knowledge, access: u8, request: Request, s: &[u8]) -> Knowledge
-    ensures { λ r. ⌜ r ≡ afterAcceptance access request (now (s .entry)) k ⌝ }
+    ensures { λ r. ⌜ r ≡ afterAcceptance access (requestAs request) (now (s .entry)) k ⌝ }
 {
-    let Decision::Accepted = command::by_itself(request) else {
-        return k.refuted();
-    };
-    move_on(showing::show(pass(k, access, request), request, s), request)
+    match request {
+        Request::Refused(_) => k.refuted(),
+        Request::Read(reading) => showing::show(k, reading, s),
+        Request::Write(writing) => {
+            let through = pass(k, access, command::guards_of(access, writing));
+            move_on(showing::show_ok(through, s), writing)
+        }
+    }
 }
 
 // What a request and its reply, behind the address digits, teach to one who knows the link's access.
 pub fn learn(k: Knowledge, access: u8, request: Request, reply: &[u8]) -> Knowledge
-    ensures { λ r. ⌜ r ≡ learnOf access request (now (reply .entry)) k ⌝ }
+    ensures { λ r. ⌜ r ≡ learnOf access (requestAs request) (now (reply .entry)) k ⌝ }
 {
     match showing::refusal_in(reply) {
         Digits::Number(n) => refuse(k, access, request, n),

@@ -1,20 +1,18 @@
--- Laws of the judge's line: how wide a number is, its digits in the lent part, and the line over the start of the buffer. Bytes laid one
--- behind the other are `reply`'s laws. Assumes nothing.
-use mathlib.Core.Path.{_≡_, refl, ap, sym, _∙_}
+-- Laws of the judge's line: its parts one behind the other, over the start of the buffer. Assumes nothing.
+use mathlib.Core.Path.{_≡_, ap, sym, _∙_}
 use mathlib.Core.List.{List, [], _∷_, _++_, append-assoc}
 use mathlib.Core.Logic.{⊎-elim}
-use Prim.Native.Nat.{ℕ, zero, suc, _+_, _-_, _/_, _≤_, _<_}
+use Prim.Native.Nat.{ℕ, _+_, _-_, _≤_, _<_}
 use native.Mathlib.Omega.{arith}
 use lib.ListN.{length, take, drop, length-append}
 use lib.Seq.{length-take-le}
-use borrow.Rule.Slice.PartMut.{putMid}
-use borrow.Author.Tests.{le-leb, lt-leb, le-ltb, lt-ltb}
+use borrow.Author.Tests.{le-leb, lt-leb}
 use Rattle.base.specs.Lists.{over}
 use Rattle.base.proofs.Tests.{below-or-not}
-use Rattle.command.specs.Word.{digits}
-use Rattle.command.proofs.Parsing.{digits-length}
-use Rattle.reply.specs.Reply.{overAt}
-use Rattle.reply.proofs.Laws.{Laid, digits-part, joined, laid-same, over-at-start}
+use Rattle.base.proofs.Lists.{over-at-start}
+use Rattle.text.specs.Word.{decimal}
+use Rattle.text.specs.Written.{writtenAt}
+use Rattle.text.proofs.Writing.{Laid, laid-same, joined, behind-written, decimal-high}
 use Rattle.recording.specs.Form.{refusalNumber}
 use Rattle.recording.specs.Replay.{fits, refuted}
 use Rattle.recording.specs.Statement as statement
@@ -23,72 +21,17 @@ use Rattle.recording.specs.declared.Refusal.{Refusal}
 use Rattle.judging.specs.Judge.{judgementAs}
 use Rattle.judging.specs.declared.Judgement.{Judgement}
 use Rattle.judging.specs.declared.Judgement.the-variants as judgement
-use Rattle.line.specs.Line.{widthIn, decimal, newline, lineOf, lineWritten}
-
--- ---- how wide a number is
-width-more : (k n : ℕ) → 10 ≤ n → widthIn (suc k) n ≡ suc (widthIn k (n / 10))
-unfolding widthIn
-width-more k n h = simp (le-ltb _ _ h)
-
-width-none : (n : ℕ) → widthIn 0 n ≡ 1
-unfolding widthIn
-width-none n = refl
-
-width-one : (k n : ℕ) → n < 10 → widthIn k n ≡ 1
-unfolding widthIn
-width-one zero n h = refl
-width-one (suc k) n h = simp (lt-ltb _ _ h)
-
-width-high : (k n : ℕ) → widthIn k n ≤ suc k
-unfolding widthIn
-width-high zero n = omega arith
-width-high (suc k) n =
-    ⊎-elim
-    (λ (h : n < 10). omega (arith, width-one (suc k) n h))
-    (λ (h : 10 ≤ n). omega (arith, width-more k n h, width-high k (n / 10)))
-    (below-or-not n 10)
-
--- the loop of `width_of`: the digits passed, and those of the rest
-pub width-again : (w rest whole : ℕ) → w < 20 → 10 ≤ rest → w + widthIn (20 - w) rest ≡ whole → w + 1 + widthIn (20 - (w + 1)) (rest / 10) ≡ whole
-width-again w rest whole h k e =
-    let i : 20 - w ≡ suc (20 - (w + 1)) = omega arith in
-    let f : widthIn (20 - w) rest ≡ suc (widthIn (20 - (w + 1)) (rest / 10)) = ap (λ (m : ℕ). widthIn m rest) i ∙ width-more (20 - (w + 1)) rest k in
-    omega arith
-
-pub width-full : (w rest whole : ℕ) → 20 ≤ w → w + widthIn (20 - w) rest ≡ 1 + whole → w ≡ whole
-width-full w rest whole h e =
-    let i : 20 - w ≡ 0 = omega arith in
-    let f : widthIn (20 - w) rest ≡ 1 = ap (λ (m : ℕ). widthIn m rest) i ∙ width-none rest in
-    omega arith
-
-pub width-done : (w rest whole : ℕ) → rest < 10 → w + widthIn (20 - w) rest ≡ 1 + whole → w ≡ whole
-width-done w rest whole h e = omega (arith, width-one (20 - w) rest h)
-
--- ---- a number
-decimal-length : (n : ℕ) → length (decimal n) ≡ widthIn 19 n
-unfolding decimal
-decimal-length n = digits-length (widthIn 19 n) n
-
-decimal-high : (n : ℕ) → length (decimal n) ≤ 20
-decimal-high n = omega (arith, decimal-length n, width-high 19 n)
-
--- the lent part from the place on
-pub decimal-end : (at w n : ℕ) → w ≡ widthIn 19 n → at + w ≡ at + length (decimal n)
-decimal-end at w n e = omega (arith, decimal-length n)
-
-pub decimal-part : (at w n : ℕ) (o ys : List ℕ) → at + 20 ≤ length o → (w ≡ widthIn 19 n) × (w ≤ 20) → ys ≡ digits (length (take (at + w - at) (drop at o))) n
-    → putMid at (at + w - at) o ys ≡ overAt at (decimal n) o
-unfolding decimal
-decimal-part at w n o ys h e f = let k : at + w ≤ length o = omega arith in digits-part at w n o ys k f ∙ ap (λ (m : ℕ). overAt at (digits m n) o) (e .0)
+use Rattle.line.specs.Line.{newline, lineOf, lineWritten}
 
 -- ---- a word and a number, and the end of the line behind them
-pub last-laid : (at b m n : ℕ) (w o o₁ o₂ : List ℕ) → Laid at (w ++ decimal n) o b o₁ → Laid b newline o₁ m o₂ → Laid at (w ++ (decimal n ++ newline)) o m o₂
-last-laid at b m n w o o₁ o₂ f g =
-    laid-same at m ((w ++ decimal n) ++ newline) (w ++ (decimal n ++ newline)) o o₂ (append-assoc w (decimal n) newline)
-    (joined at b m (w ++ decimal n) newline o o₁ o₂ f g)
-
 pub labelled-high : (w : List ℕ) (n : ℕ) → length (w ++ decimal n) ≤ length w + 20
 labelled-high w n = omega (arith, length-append w (decimal n), decimal-high n)
+
+pub last-laid : (at b m n : ℕ) (w o o₁ o₂ : List ℕ) → at + length w + 21 ≤ length o → Laid at (w ++ decimal n) o b o₁
+    → (m, o₂) ≡ writtenAt b newline o₁ → Laid at (w ++ (decimal n ++ newline)) o m o₂
+last-laid at b m n w o o₁ o₂ h f g =
+    laid-same at m ((w ++ decimal n) ++ newline) (w ++ (decimal n ++ newline)) o o₂ (append-assoc w (decimal n) newline)
+    (behind-written at b m 1 (w ++ decimal n) newline o o₁ o₂ (omega arith) (omega (arith, labelled-high w n)) f g)
 
 -- ---- the whole line
 -- the words as the code has them

@@ -19,17 +19,17 @@ use Rattle.base.specs.Test.{allBetween}
 use Rattle.state.specs.Parameter.{rangeAt, placeOf, placeIn}
 use Rattle.frame.specs.Frame.{withinLimits, marksRight, checkRight, xorFrom, textIn, namesUnit, addressIn, frameOf}
 use Rattle.frame.specs.Answer.{addressOf, locateOf}
-use Rattle.command.specs.Word.{digits, equal, valueFrom}
-use Rattle.command.specs.Commands.{codeIn, formed, digitsBetween}
-use Rattle.command.specs.Request.{requestOf, requestFor, numbersOf, volumeOf, flagOf, numberFor}
+use Rattle.text.specs.Word.{digits, widthIn, decimal, equal, valueFrom, numberFor}
+use Rattle.command.specs.Commands.{codeIn, formed, digitsBetween, rowOf}
+use Rattle.command.specs.Request.{firstByText, firstByArguments, askedWith, askedFor, askedIn, guardsIn}
 use Rattle.knowledge.specs.Sets.{maskFrom, bit}
-use Rattle.knowledge.specs.Knowledge.{codeAt, narrowed, told, becoming, advanced, start}
-use Rattle.showing.specs.Heard.{refusalIn, numberBehind, statusFormed}
-use Rattle.showing.specs.Shown.{shown, statusShown, allHold, listShown, codeShown}
-use Rattle.learning.specs.Learn.{learnOf, afterRefusal, afterAcceptance, moved}
+use Rattle.knowledge.specs.Knowledge.{codeAt, restricted, told, becoming, advanced, start}
+use Rattle.showing.specs.Heard.{numberBehind, weightLit, charactersFormed}
+use Rattle.showing.specs.Shown.{shown, bitsShown, charactersShown, statusShown, wordShown, codesShown, listShown}
+use Rattle.learning.specs.Learn as through
+use Rattle.learning.specs.Learn.{learnOf, refusedBy, moved}
 use Rattle.judging.proofs.Theorem.{judgement-right}
-use Rattle.line.specs.Line as line
-use Rattle.line.specs.Line.{newline, widthIn, decimal, lineOf}
+use Rattle.line.specs.Line.{newline, lineOf}
 
 -- frames sent to the bench record one after the other, each with the reply that it must get;
 -- or a recording, how many bytes it has, its answer, and the line that is printed
@@ -96,7 +96,7 @@ AllComputed [] = Unit {0}
 AllComputed (e ∷ es) = Computed e × AllComputed es
 
 computed : AllComputed table
-unfolding check judgementOf recordingOf exchangesIn answerOf passed exchangeLearnt replyLearnt textLearnt silenceKept addressOf locateOf withinLimits marksRight checkRight xorFrom textIn allBetween namesUnit addressIn frameOf digits equal valueFrom requestOf requestFor codeIn formed digitsBetween numbersOf volumeOf flagOf learnOf refusalIn numberBehind numberFor afterRefusal afterAcceptance shown moved narrowed told codeAt becoming advanced start statusFormed statusShown allHold listShown codeShown maskFrom bit rangeAt placeOf placeIn widthIn decimal lineOf
+unfolding check judgementOf recordingOf exchangesIn answerOf passed exchangeLearnt replyLearnt textLearnt silenceKept addressOf locateOf withinLimits marksRight checkRight xorFrom textIn allBetween namesUnit addressIn frameOf digits equal valueFrom askedIn askedFor askedWith firstByText firstByArguments guardsIn rowOf codeIn formed digitsBetween learnOf numberBehind numberFor through.passed refusedBy shown statusShown charactersFormed weightLit charactersShown bitsShown listShown codesShown wordShown moved restricted told codeAt becoming advanced start maskFrom bit rangeAt placeOf placeIn widthIn decimal lineOf
 computed = (controller.worked, ((refl, refl, refl), ((refl, refl, refl), ((refl, refl, refl), ((refl, refl, refl), ((refl, refl, refl), tt))))))
 
 -- and that answer is right by the theorem

@@ -1,23 +1,14 @@
 -- Document 01: "writes that answer as one line: `fits N` (N exchanges), `refuted at I of N` (I counts from 1), or `refused Jn`".
-use Prim.Native.Nat.{ℕ, zero, suc, _/_}
+use Prim.Native.Nat.{ℕ}
 use mathlib.Core.List.{List, [], _∷_, _++_}
-use lib.Dec.{leb, ltb}
+use lib.Dec.{leb}
 use lib.ListN.{length}
-use Rattle.base.specs.Test.{pick, unless}
+use Rattle.base.specs.Test.{unless}
 use Rattle.base.specs.Lists.{over}
 use Rattle.base.specs.Text.{text}
-use Rattle.command.specs.Word.{digits}
+use Rattle.text.specs.Word.{decimal}
 use Rattle.recording.specs.Replay.{fits, refuted}
 use Rattle.recording.specs.Statement.{Judgement, refused, judged}
-
--- how many decimal digits a number has, up to 20
-unfoldable pub widthIn : ℕ → ℕ → ℕ
-widthIn zero n = 1
-widthIn (suc w) n = pick (ltb n 10) 1 (suc (widthIn w (n / 10)))
-
--- a number in decimal digits, none of them a leading zero
-unfoldable pub decimal : ℕ → List ℕ
-decimal n = digits (widthIn 19 n) n
 
 abbrev pub newline : List ℕ
 newline = 0x0a ∷ []

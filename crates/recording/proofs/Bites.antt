@@ -18,11 +18,10 @@ use Rattle.state.specs.Valid.{allIn, valid}
 use Rattle.frame.specs.declared.Kind.the-variants.{Minicomputer}
 use Rattle.frame.specs.Frame.{namesUnit, addressIn, xorFrom, frameOf, textIn, withinLimits, marksRight, checkRight}
 use Rattle.base.proofs.Lists.{over-take}
-use Rattle.command.specs.Word.{digits, valueFrom}
-use Rattle.command.specs.Status.{statusCharacters}
-use Rattle.command.specs.Commands as commands
-use Rattle.command.specs.Commands.{codeIn, digitsBetween, formed, parameterIn, numberIn, secondIn, applied, rowOf, spaced}
-use Rattle.command.specs.Answer.{Verdict, NO, firstOf, verdict, replyFor, replyText, recordAfter}
+use Rattle.text.specs.Word.{digits, valueFrom}
+use Rattle.command.specs.Status.{weightIn, statusCharacters}
+use Rattle.command.specs.Commands.{codeIn, digitsBetween, formed, applied, rowOf}
+use Rattle.command.specs.Answer.{Verdict, NO, argumentsIn, firstOf, verdict, replyFor, replyText, recordAfter}
 use Rattle.command.specs.Answer as answer
 use Rattle.command.specs.Bench.{bench}
 use Rattle.controller.specs.Call.{Outcome, callOf}
@@ -69,7 +68,7 @@ abbrev pub level-raised : List Exchange
 level-raised = (framed "01XC 011 3" gets framed "01OK") ∷ []
 
 pub some-fit : Fits 1 2 recipe-kept × Fits 1 2 (take 1 recipe-lost) × Fits 1 2 (drop 1 recipe-lost) × Fits 1 2 silences × Fits 1 3 level-raised
-unfolding check bench callOf valid allIn rangeAt placeOf placeIn withinLimits marksRight checkRight xorFrom textIn allBetween namesUnit addressIn frameOf over replyText recordAfter verdict firstOf codeIn formed digitsBetween valueFrom parameterIn commands.placeIn numberIn secondIn rowOf digits applied put
+unfolding check bench callOf valid allIn rangeAt placeOf placeIn withinLimits marksRight checkRight xorFrom textIn allBetween namesUnit addressIn frameOf over replyText recordAfter verdict firstOf codeIn formed digitsBetween valueFrom rowOf digits applied put
 some-fit = (
   fit-by bench recipe-kept refl ((refl, refl), ((refl, refl), ((refl, refl), tt))),
   fit-by bench (take 1 recipe-lost) refl ((refl, refl), tt),
@@ -111,7 +110,7 @@ silence-refuted c h =
 
 -- a reply of the right length whose third status character is not 0
 pub bytes-refuted : (c : ℕ) → Fits 1 c ((framed "01EQ" gets framed "01001000") ∷ []) → ⊥
-unfolding frameOf statusCharacters digits
+unfolding frameOf weightIn statusCharacters digits
 bytes-refuted c h =
     let (r, s, a) = h in
     let z = ap (λ (f : List ℕ). getD f 5 0) (status-heard r (framed "01001000") (s .valid-record) (s .same-address) (a .0)) in
@@ -149,17 +148,17 @@ second-holds false e = let z : _≡_ {A = ℕ} 0 1 = cc in omega arith
 
 -- a level above the access that was set
 pub level-refuted : Fits 1 2 level-raised → ⊥
-unfolding textIn codeIn secondIn valueFrom
+unfolding textIn codeIn rowOf valueFrom
 level-refuted h =
     let (r, s, g) = h in
     let q : List ℕ = framed "01XC 011 3" in
     let ok = accepted-so r q (replicate 64 0) (g .0 (replicate 64 0) refl .0) in
     let t : List ℕ = textIn Minicomputer q in
-    second-holds (ltb 2 (get (level (commands.placeIn t)) r)) (simp (s .same-access) at (accepted-by-none t r ok 7 (omega arith)))
+    second-holds (ltb 2 (get (level (argumentsIn t .place)) r)) (simp (s .same-access) at (accepted-by-none t r ok 7 (omega arith)))
 
 -- each of two exchanges fits alone, as above, but not the one after the other
 pub lost-refuted : (c : ℕ) → Fits 1 c recipe-lost → ⊥
-unfolding textIn codeIn numberIn valueFrom frameOf xorFrom digits check
+unfolding textIn codeIn rowOf valueFrom frameOf xorFrom digits check
 lost-refuted c h =
     let (r, s, g) = h in
     let q : List ℕ = framed "01NR 03" in
@@ -167,8 +166,8 @@ lost-refuted c h =
     let told = g .0 o refl .0 in
     let after : Record = next r (q gets framed "01OK") in
     let shown = recipe-after-recipe Minicomputer Minicomputer r q o o (answered r q o told .heard) (accepted-so r q o told) (omega arith) refl in
-    let answers : AnswersAt Minicomputer after o 1 (text "RR") (spaced (text "RR" ∷ digits 2 3 ∷ [])) =
-    subst (λ (n : ℕ). AnswersAt Minicomputer after o n (text "RR") (spaced (text "RR" ∷ digits 2 3 ∷ []))) (s .same-address) shown in
+    let answers : AnswersAt Minicomputer after o 1 (text "RR") (text "RR " ++ digits 2 3) =
+    subst (λ (n : ℕ). AnswersAt Minicomputer after o n (text "RR") (text "RR " ++ digits 2 3)) (s .same-address) shown in
     let z = ap (λ (f : List ℕ). getD f 7 0) (heard-frame after (framed "01RR" gets framed "01RR 04") o _ after answers (g .1 .0 o refl)) in
     omega arith
 

@@ -12,12 +12,14 @@ use lib.Seq.{drop-cons, drop-drop}
 use borrow.Author.Tests.{le-leb, lt-leb, lt-ltb, le-ltb, eq-eqb, ne-eqb, not-true, not-false}
 use Rattle.base.specs.Test.{unless, between}
 use Rattle.base.proofs.Tests.{below-or-not, between-yes, between-no}
+use Rattle.state.specs.Field.{address, access, fieldRange}
+use Rattle.state.specs.Valid.{within as inRange}
 use Rattle.recording.specs.declared.Spans.{Spans}
 use Rattle.recording.specs.declared.Next.{Next}
 use Rattle.recording.specs.declared.Next.the-variants as next
 use Rattle.recording.specs.declared.Count.{Count}
 use Rattle.recording.specs.declared.Count.the-variants as count
-use Rattle.recording.specs.Form.{Exchange, Exchanges, whole, cut, before, replyAndRest, exchangesIn, spans, exchangeAt, recordingOf, withHeader, J-number, counted, summary, countOf}
+use Rattle.recording.specs.Form.{Exchange, Exchanges, whole, cut, before, replyAndRest, exchangesIn, spans, exchangeAt, headerWidth, recordingOf, withHeader, J-number, counted, summary, countOf}
 
 -- ---- what stands at a place
 pub at-end : (s : List ℕ) (at : ℕ) → length s ≤ at → exchangeAt s at ≡ next.End
@@ -193,7 +195,7 @@ more n count.Cut = count.Cut
 pub record Counted (s : List ℕ) (at n : ℕ) : Type 0 where
   pub inside : at ≤ length s
   pub few : n ≤ at
-  pub all : countOf (exchangesIn (length s) (drop 5 s)) ≡ more n (countOf (exchangesIn (length s) (drop at s)))
+  pub all : countOf (exchangesIn (length s) (drop headerWidth s)) ≡ more n (countOf (exchangesIn (length s) (drop at s)))
 
 no-more : (x : Count) → x ≡ more 0 x
 no-more (count.Whole k) = ap count.Whole (omega arith)
@@ -203,17 +205,17 @@ one-before : (n : ℕ) (e : Exchange) (x : Exchanges) → more n (countOf (befor
 one-before n e (whole es) = ap count.Whole (omega arith)
 one-before n e cut = refl
 
-pub counted-none : (s : List ℕ) → 5 ≤ length s → Counted s 5 0
-counted-none s h = record { inside = h; few = omega arith; all = no-more (countOf (exchangesIn (length s) (drop 5 s))) }
+pub counted-none : (s : List ℕ) → headerWidth ≤ length s → Counted s headerWidth 0
+counted-none s h = record { inside = h; few = omega arith; all = no-more (countOf (exchangesIn (length s) (drop headerWidth s))) }
 
 module _ (s : List ℕ) (at n : ℕ) (x : Next) (k : Counted s at n) (i : x ≡ exchangeAt s at) where
-  all-by : (y : Next) → x ≡ y → countOf (exchangesIn (length s) (drop 5 s)) ≡ more n (countOf (unrolled s y))
+  all-by : (y : Next) → x ≡ y → countOf (exchangesIn (length s) (drop headerWidth s)) ≡ more n (countOf (unrolled s y))
   all-by y e = k .all ∙ ap (λ (z : Exchanges). more n (countOf z)) (unroll s at ∙ ap (unrolled s) (sym i ∙ e))
 
-  pub counted-all : x ≡ next.End → count.Whole n ≡ countOf (exchangesIn (length s) (drop 5 s))
+  pub counted-all : x ≡ next.End → count.Whole n ≡ countOf (exchangesIn (length s) (drop headerWidth s))
   counted-all e = let z : n + 0 ≡ n = omega arith in sym (all-by next.End e ∙ ap count.Whole z)
 
-  pub counted-cut : x ≡ next.Cut → count.Cut ≡ countOf (exchangesIn (length s) (drop 5 s))
+  pub counted-cut : x ≡ next.Cut → count.Cut ≡ countOf (exchangesIn (length s) (drop headerWidth s))
   counted-cut e = sym (all-by next.Cut e)
 
   pub counted-one : (p : Spans) → x ≡ next.Exchange p → Counted s (p .end) (n + 1)
@@ -241,11 +243,11 @@ by-count a c k (whole es) e = let z : length es ≡ k = cc in ap (counted a c) z
 by-count a c k cut e = let z : _≡_ {A = ℕ} 0 1 = cc in absurd (omega arith)
 
 -- ---- reading, one law for each return
-pub read-size : (s : List ℕ) → (5 ≤ length s → length s ≤ 65535 → ⊥) → J-number 1 ≡ summary (recordingOf s)
+pub read-size : (s : List ℕ) → (headerWidth ≤ length s → length s ≤ 65535 → ⊥) → J-number 1 ≡ summary (recordingOf s)
 unfolding recordingOf
 read-size s h = simp (between-no 5 65535 (length s) h)
 
-module _ (s : List ℕ) (low : 5 ≤ length s) (high : length s ≤ 65535) where
+module _ (s : List ℕ) (low : headerWidth ≤ length s) (high : length s ≤ 65535) where
   size : between 5 65535 (length s) ≡ true
   size = between-yes 5 65535 (length s) low high
 
@@ -262,28 +264,28 @@ module _ (s : List ℕ) (low : 5 ≤ length s) (high : length s ≤ 65535) where
       same-size : eqb (getD s 1 0 * 256 + getD s 2 0) (length s) ≡ true
       same-size = eq-eqb (getD s 1 0 * 256 + getD s 2 0) (length s) (omega arith)
 
-      module _ (a : ℕ) (b : Bool) (same : a ≡ getD s 3 0) (told : b ≡ between 1 99 a) where
-        tested : between 1 99 (getD s 3 0) ≡ b
-        tested = sym (told ∙ ap (between 1 99) same)
+      module _ (a : ℕ) (b : Bool) (same : a ≡ getD s 3 0) (told : b ≡ inRange (fieldRange address) a) where
+        tested : inRange (fieldRange address) (getD s 3 0) ≡ b
+        tested = sym (told ∙ ap (inRange (fieldRange address)) same)
 
         pub read-address : not b ≡ true → J-number 4 ≡ summary (recordingOf s)
         unfolding recordingOf
         read-address h = simp (size, eq-eqb _ _ version, same-size, tested, not-true b h)
 
         module _ (unit : not b ≡ false) where
-          pub read-access : 3 < getD s 4 0 → J-number 4 ≡ summary (recordingOf s)
+          pub read-access : fieldRange access .high < getD s 4 0 → J-number 4 ≡ summary (recordingOf s)
           unfolding recordingOf
-          read-access h = simp (size, eq-eqb _ _ version, same-size, tested, not-false b unit, between-no 0 3 (getD s 4 0) (λ p q. omega arith))
+          read-access h = simp (size, eq-eqb _ _ version, same-size, tested, not-false b unit, between-no (fieldRange access .low) (fieldRange access .high) (getD s 4 0) (λ p q. omega arith))
 
-          pub read-through : getD s 4 0 ≤ 3 → recordingOf s ≡ withHeader (getD s 3 0) (getD s 4 0) (exchangesIn (length s) (drop 5 s))
+          pub read-through : getD s 4 0 ≤ fieldRange access .high → recordingOf s ≡ withHeader (getD s 3 0) (getD s 4 0) (exchangesIn (length s) (drop headerWidth s))
           unfolding recordingOf
-          read-through h = simp (size, eq-eqb _ _ version, same-size, tested, not-false b unit, between-yes 0 3 (getD s 4 0) (omega arith) h)
+          read-through h = simp (size, eq-eqb _ _ version, same-size, tested, not-false b unit, between-yes (fieldRange access .low) (fieldRange access .high) (getD s 4 0) (omega arith) h)
 
 -- after the header, by the count
-module _ (s : List ℕ) (n : Count) (through : recordingOf s ≡ withHeader (getD s 3 0) (getD s 4 0) (exchangesIn (length s) (drop 5 s)))
-    (all : n ≡ countOf (exchangesIn (length s) (drop 5 s))) where
+module _ (s : List ℕ) (n : Count) (through : recordingOf s ≡ withHeader (getD s 3 0) (getD s 4 0) (exchangesIn (length s) (drop headerWidth s)))
+    (all : n ≡ countOf (exchangesIn (length s) (drop headerWidth s))) where
   pub read-cut : n ≡ count.Cut → J-number 5 ≡ summary (recordingOf s)
-  read-cut e = sym (ap summary through ∙ by-count-cut (getD s 3 0) (getD s 4 0) (exchangesIn (length s) (drop 5 s)) (sym all ∙ e))
+  read-cut e = sym (ap summary through ∙ by-count-cut (getD s 3 0) (getD s 4 0) (exchangesIn (length s) (drop headerWidth s)) (sym all ∙ e))
 
   pub read-whole : (k : ℕ) → n ≡ count.Whole k → counted (getD s 3 0) (getD s 4 0) k ≡ summary (recordingOf s)
-  read-whole k e = sym (ap summary through ∙ by-count (getD s 3 0) (getD s 4 0) k (exchangesIn (length s) (drop 5 s)) (sym all ∙ e))
+  read-whole k e = sym (ap summary through ∙ by-count (getD s 3 0) (getD s 4 0) k (exchangesIn (length s) (drop headerWidth s)) (sym all ∙ e))

@@ -1,9 +1,12 @@
 // Recordings, version 1: their form.
+use base::is_between;
 use base::wide;
+use state::ACCESS_RANGE;
+use state::ADDRESS_RANGE;
 ghost use mathlib.Core.Path.{_≡_};
 ghost use Prim.Native.Nat.{_≤_};
 ghost use lib.ListN.{length, drop};
-ghost use Rattle.recording.specs.Form.{exchangesIn, exchangeAt, recordingOf, summary, readAs, countOf, refusalNumber};
+ghost use Rattle.recording.specs.Form.{headerWidth, exchangesIn, exchangeAt, recordingOf, summary, readAs, countOf, refusalNumber};
 
 // Why a recording is refused.
 pub enum Refusal {
@@ -55,6 +58,8 @@ pub enum Read {
 
 pub const HEADER: usize = 5;
 
+const HIGH_ACCESS: u8 = ACCESS_RANGE.high as u8;
+
 // The exchange that starts at a place.
 pub fn exchange_at(s: &[u8], at: usize) -> Next
     ensures { λ n. ⌜ n ≡ exchangeAt (now (s .entry)) at ⌝ }
@@ -86,8 +91,8 @@ enum Count {
 }
 
 fn count_exchanges(s: &[u8]) -> Count
-    requires { ⌜ 5 ≤ length (now s) ⌝ }
-    ensures { λ n. ⌜ n ≡ countOf (exchangesIn (length (now (s .entry))) (drop 5 (now (s .entry)))) ⌝ }
+    requires { ⌜ headerWidth ≤ length (now s) ⌝ }
+    ensures { λ n. ⌜ n ≡ countOf (exchangesIn (length (now (s .entry))) (drop headerWidth (now (s .entry)))) ⌝ }
 {
     let mut at = HEADER;
     let mut n = 0;
@@ -111,7 +116,7 @@ fn count_exchanges(s: &[u8]) -> Count
 pub fn read_recording(s: &[u8]) -> Read
     ensures { λ r. ⌜ readAs r ≡ summary (recordingOf (now (s .entry))) ⌝ }
 {
-    if s.len() < 5 {
+    if s.len() < HEADER {
         return Read::Refused(Refusal::Length);
     }
     if 65535 < s.len() {
@@ -125,10 +130,10 @@ pub fn read_recording(s: &[u8]) -> Read
     }
     let address = s[3];
     let access = s[4];
-    if !base::is_between(1, 99, wide(address)) {
+    if !is_between(ADDRESS_RANGE.low, ADDRESS_RANGE.high, wide(address)) {
         return Read::Refused(Refusal::Header);
     }
-    if 3 < access {
+    if HIGH_ACCESS < access {
         return Read::Refused(Refusal::Header);
     }
     match count_exchanges(s) {

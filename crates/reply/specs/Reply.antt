@@ -1,20 +1,14 @@
 -- A reply's text in the lent part of the reply buffer.
-use Prim.Native.Nat.{ℕ, _+_}
+use Prim.Native.Nat.{ℕ}
 use mathlib.Core.List.{List, _∷_, _++_}
 use lib.Dec.{leb}
-use lib.ListN.{length, take, drop}
+use lib.ListN.{length}
 use Rattle.state.specs.declared.Record.{Record}
 use Rattle.base.specs.Test.{unless}
 use Rattle.state.specs.Field.{address, get}
 use Rattle.base.specs.Lists.{over}
-use Rattle.command.specs.declared.Request.{Request}
-use Rattle.command.specs.Word.{space, digits}
-use Rattle.command.specs.Answer.{Verdict}
-use Rattle.command.specs.Request.{replyTo}
-
--- bytes laid over a list from a place on
-unfoldable pub overAt : ℕ → List ℕ → List ℕ → List ℕ
-overAt at xs s = take at s ++ (xs ++ drop (at + length xs) s)
+use Rattle.text.specs.Word.{space, digits}
+use Rattle.command.specs.Request.{Answered, answerText}
 
 -- a word and a number in full width behind it
 abbrev pub labelled : List ℕ → ℕ → ℕ → List ℕ
@@ -25,9 +19,9 @@ abbrev pub labelledTwo : List ℕ → ℕ → ℕ → ℕ → ℕ → List ℕ
 labelledTwo w width n width2 n2 = labelled w width n ++ (space ∷ digits width2 n2)
 
 -- "address digits, then the reply"
-unfoldable pub textFor : Verdict → Request → Record → List ℕ
-textFor v q r = digits 2 (get address r) ++ replyTo v q r
+unfoldable pub textFor : Answered → Record → List ℕ
+textFor a r = digits 2 (get address r) ++ answerText a r
 
 -- the text's length, and the buffer with the text laid over its start; nothing, where there is no room for a text
-unfoldable pub writtenOf : Verdict → Request → Record → List ℕ → ℕ × List ℕ
-writtenOf v q r o = unless (leb 60 (length o)) (0, o) (length (textFor v q r), over (textFor v q r) o)
+unfoldable pub writtenOf : Answered → Record → List ℕ → ℕ × List ℕ
+writtenOf a r o = unless (leb 60 (length o)) (0, o) (length (textFor a r), over (textFor a r) o)

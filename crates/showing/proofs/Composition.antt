@@ -1,38 +1,37 @@
 -- RC shows exactly the records of that recipe and of that recipe's factor: the recipe that is read tells whose factor follows, and the
 -- reply is split where the recipe's digits end. Assumes nothing.
-use Prim.Native.Nat.{ℕ}
-use mathlib.Core.Bool.{Bool, true, false}
-use mathlib.Core.Path.{_≡_, refl, sym, ap, subst, subst₂, _∙_}
+use Prim.Native.Nat.{ℕ, _^_, _<_}
+use mathlib.Core.Bool.{true, false, false≢true}
+use mathlib.Core.Path.{_≡_, refl, sym, ap, _∙_}
 use mathlib.Core.List.{List, [], _∷_, _++_}
 use native.Mathlib.Omega.{arith}
+use lib.Dec.{ltb}
 use lib.ListN.{length, take, drop, take-append-drop}
 use lib.Seq.{take-at, drop-at}
+use borrow.Author.Tests.{ltb-true}
 use Rattle.base.specs.Text.{text}
-use Rattle.base.specs.Test.{unless, between}
-use Rattle.base.proofs.Tests.{between-low, between-high}
+use Rattle.base.proofs.Tests.{between-low, between-high, holds-below}
 use Rattle.state.specs.declared.Record.{Record}
-use Rattle.state.specs.Parameter.{recipes}
-use Rattle.state.specs.Field.{recipe, value, get}
-use Rattle.state.proofs.Fields.{Held}
-use Rattle.command.specs.declared.Request.the-variants.{Composition}
-use Rattle.command.specs.declared.Digits.{Digits}
-use Rattle.command.specs.declared.Digits.the-variants as digitsRead
-use Rattle.command.specs.Word.{space, digits}
-use Rattle.command.specs.Commands.{factorPlace}
-use Rattle.command.specs.Request.{shows}
-use Rattle.command.proofs.Parsing.{digits-length}
+use Rattle.state.specs.Parameter.{parameterCount, rangeAt}
+use Rattle.state.specs.Field.{recipe, value, get, fieldRange}
+use Rattle.state.specs.Valid.{within, valid}
+use Rattle.state.proofs.Kept.{field-in}
+use Rattle.text.specs.declared.Digits.{Digits}
+use Rattle.text.specs.declared.Digits.the-variants as digitsRead
+use Rattle.text.specs.Word.{space, digits}
+use Rattle.command.specs.Commands.{factorPlace, composition, printed}
+use Rattle.text.proofs.Words.{digits-length}
 use Rattle.knowledge.specs.declared.Knowledge.{Knowledge}
-use Rattle.knowledge.specs.Knowledge.{dead}
-use Rattle.knowledge.proofs.Possible.{Possible, Kept}
-use Rattle.knowledge.proofs.Cut.{dead-none, dead-kept}
+use Rattle.knowledge.proofs.Possible.{Kept}
 use Rattle.showing.specs.Heard.{numberBehind}
-use Rattle.showing.specs.Shown.{numberShown, factorShown, compositionShown, shown}
-use Rattle.showing.proofs.Numbers.{behind-told, behind-left}
-use Rattle.showing.proofs.Fields.{number-kept, number-told, number-left}
-use Rattle.showing.proofs.Widths.{recipe-known, recipe-fits, value-fits}
+use Rattle.showing.specs.Shown.{numberShown, compositionShown, shown}
+use Rattle.showing.proofs.Reading.{behind-told, behind-left}
+use Rattle.showing.proofs.Fields.{Shows, shown-as, both-shown, unless-shown, same-number, no-number, number-shown, field-fits}
 
-factor-held : (n : ℕ) → between 1 recipes n ≡ true → Held (value (factorPlace n))
-factor-held n h = omega (arith, between-low 1 recipes n h, between-high 1 recipes n h)
+-- every parameter's value fits eight digits, by computation over all places
+pub value-small : (i : ℕ) → i < parameterCount → rangeAt i .high < 10 ^ 8
+unfolding rangeAt
+value-small i h = ltb-true (rangeAt i .high) (10 ^ 8) (holds-below (λ (j : ℕ). ltb (rangeAt j .high) (10 ^ 8)) parameterCount refl i h)
 
 -- the factor of a record's recipe, and "RC rr"
 abbrev factor : Record → ℕ
@@ -41,69 +40,55 @@ factor r = get (value (factorPlace (get recipe r))) r
 abbrev start : Record → List ℕ
 start r = text "RC " ++ digits 2 (get recipe r)
 
-module _ {a c : ℕ} (k : Knowledge) (kept : Kept a c k) where
-  factor-kept : (n : ℕ) (e : Digits) → Kept a c (factorShown n e k)
-  factor-kept n e = go (between 1 recipes n) refl
-    where
-      go : (t : Bool) → between 1 recipes n ≡ t
-          → Kept a c (unless t (dead k) (numberShown (value (factorPlace n)) e (numberShown recipe (digitsRead.Number n) k)))
-      go true h =
-          number-kept (numberShown recipe (digitsRead.Number n) k) (value (factorPlace n)) (number-kept k recipe kept (omega arith) (digitsRead.Number n) (omega arith))
-          (factor-held n h) e (omega arith)
-      go false h = dead-kept k kept
+factor-within : (n : ℕ) → within (fieldRange recipe) n ≡ true → factorPlace n < parameterCount
+factor-within n h =
+    omega (arith, between-low (fieldRange recipe .low) (fieldRange recipe .high) n h, between-high (fieldRange recipe .low) (fieldRange recipe .high) n h)
 
-  pub composition-kept : (d e : Digits) → Kept a c (compositionShown d e k)
-  composition-kept (digitsRead.Number n) e = factor-kept n e
-  composition-kept digitsRead.Nothing e = dead-kept k kept
+-- a record's recipe is one of the recipes
+recipe-known : (r : Record) → valid r ≡ true → within (fieldRange recipe) (get recipe r) ≡ true
+recipe-known r v = field-in r v recipe (omega arith)
 
-  module _ (r : Record) where
-    factor-told : (n : ℕ) (e : Digits) → Possible (factorShown n e k) r
-        → Possible k r × (digitsRead.Number n ≡ digitsRead.Number (get recipe r)) × (e ≡ digitsRead.Number (factor r))
-    factor-told n e = go (between 1 recipes n) refl
-      where
-        go : (t : Bool) → between 1 recipes n ≡ t
-            → Possible (unless t (dead k) (numberShown (value (factorPlace n)) e (numberShown recipe (digitsRead.Number n) k))) r
-            → Possible k r × (digitsRead.Number n ≡ digitsRead.Number (get recipe r)) × (e ≡ digitsRead.Number (factor r))
-        go true h p =
-            let next = number-kept k recipe kept (omega arith) (digitsRead.Number n) (omega arith) in
-            let f = number-told (numberShown recipe (digitsRead.Number n) k) (value (factorPlace n)) next (factor-held n h) r e p in
-            let t = number-told k recipe kept (omega arith) r (digitsRead.Number n) (f .0) in
-            let i = t .1 in
-            let same : n ≡ get recipe r = cc in
-            (t .0, t .1, f .1 ∙ ap (λ (m : ℕ). digitsRead.Number (get (value (factorPlace m)) r)) same)
-        go false h p = absurd (dead-none k r p)
+-- the two numbers
+abbrev Both : Digits → Digits → Record → Type 0
+Both d e r = (d ≡ digitsRead.Number (get recipe r)) × (e ≡ digitsRead.Number (factor r))
 
-    composition-told : (d e : Digits) → Possible (compositionShown d e k) r
-        → Possible k r × (d ≡ digitsRead.Number (get recipe r)) × (e ≡ digitsRead.Number (factor r))
-    composition-told (digitsRead.Number n) e p = factor-told n e p
-    composition-told digitsRead.Nothing e p = absurd (dead-none k r p)
+numbers-shown : {a c : ℕ} (d e : Digits) (k : Knowledge) → Kept a c k → Shows a c k (compositionShown d e k) (Both d e)
+numbers-shown digitsRead.Nothing e k kept =
+    unless-shown false k k (Both digitsRead.Nothing e) kept (λ q. absurd (false≢true q)) (λ r v q. absurd (no-number (get recipe r) (q .0)))
+numbers-shown (digitsRead.Number n) e k kept =
+    let l : Knowledge = numberShown recipe (digitsRead.Number n) k in
+    let t = number-shown k recipe (digitsRead.Number n) kept (omega arith) (omega arith) in
+    unless-shown (within (fieldRange recipe) n) k (numberShown (value (factorPlace n)) e l) (Both (digitsRead.Number n) e) kept
+    (λ h.
+    shown-as k _ (λ r. (digitsRead.Number n ≡ digitsRead.Number (get recipe r)) × (e ≡ digitsRead.Number (get (value (factorPlace n)) r)))
+    (Both (digitsRead.Number n) e)
+    (λ r v q. (q .0, q .1 ∙ ap (λ (m : ℕ). digitsRead.Number (get (value (factorPlace m)) r)) (sym (same-number n (get recipe r) (q .0)))))
+    (λ r v q. (q .0, q .1 ∙ ap (λ (m : ℕ). digitsRead.Number (get (value (factorPlace m)) r)) (same-number n (get recipe r) (q .0))))
+    (both-shown k l _ (λ r. digitsRead.Number n ≡ digitsRead.Number (get recipe r)) (λ r. e ≡ digitsRead.Number (get (value (factorPlace n)) r)) t
+    (number-shown l (value (factorPlace n)) e (t .kept) (omega (arith, factor-within n h)) (omega arith))))
+    (λ r v q. ap (within (fieldRange recipe)) (sym (same-number n (get recipe r) (q .0))) ∙ recipe-known r v)
 
-    composition-left : Possible k r → Possible (compositionShown (digitsRead.Number (get recipe r)) (digitsRead.Number (factor r)) k) r
-    composition-left p =
+-- ---- RC
+pub composition-shown : {a c : ℕ} (b : List ℕ) (k : Knowledge) → Kept a c k → Shows a c k (shown composition b k) (λ r. printed composition r ≡ b)
+unfolding shown
+composition-shown b k kept =
+    shown-as k _ (Both (numberBehind (text "RC ") 2 (take 5 b)) (numberBehind (space ∷ []) 8 (drop 5 b))) (λ r. printed composition r ≡ b) told left
+    (numbers-shown (numberBehind (text "RC ") 2 (take 5 b)) (numberBehind (space ∷ []) 8 (drop 5 b)) k kept)
+  where
+    told : (r : Record) → valid r ≡ true → Both (numberBehind (text "RC ") 2 (take 5 b)) (numberBehind (space ∷ []) 8 (drop 5 b)) r → printed composition r ≡ b
+    told r v e =
+        let x = behind-told (text "RC ") 2 (take 5 b) (get recipe r) (e .0) in
+        let y = behind-told (space ∷ []) 8 (drop 5 b) (factor r) (e .1) in
+        ap (λ (l : List ℕ). l ++ (space ∷ digits 8 (factor r))) (sym (x .0)) ∙ ap (λ (l : List ℕ). take 5 b ++ l) (sym (y .0)) ∙ take-append-drop 5 b
+
+    left : (r : Record) → valid r ≡ true → printed composition r ≡ b → Both (numberBehind (text "RC ") 2 (take 5 b)) (numberBehind (space ∷ []) 8 (drop 5 b)) r
+    left r v e =
         let n : ℕ = get recipe r in
-        let h = recipe-known r (p .sound) in
-        let next = number-kept k recipe kept (omega arith) (digitsRead.Number n) (omega arith) in
-        subst (λ (t : Bool). Possible (unless t (dead k) (numberShown (value (factorPlace n)) (digitsRead.Number (factor r)) (numberShown recipe (digitsRead.Number n) k))) r)
-        (sym h)
-        (number-left (numberShown recipe (digitsRead.Number n) k) (value (factorPlace n)) next (factor-held n h) r (digitsRead.Number (factor r))
-        (number-left k recipe kept (omega arith) r (digitsRead.Number n) p refl) refl)
-
-    pub both-told : (b : List ℕ) → Possible (shown Composition b k) r → Possible k r × (shows Composition r ≡ b)
-    unfolding shown
-    both-told b p =
-        let t = composition-told (numberBehind (text "RC ") 2 (take 5 b)) (numberBehind (space ∷ []) 8 (drop 5 b)) p in
-        let x = behind-told (text "RC ") 2 (take 5 b) (get recipe r) (t .1) in
-        let y = behind-told (space ∷ []) 8 (drop 5 b) (factor r) (t .2) in
-        (t .0, ap (λ (l : List ℕ). l ++ (space ∷ digits 8 (factor r))) (sym (x .0)) ∙ ap (λ (l : List ℕ). take 5 b ++ l) (sym (y .0)) ∙ take-append-drop 5 b)
-
-    pub both-left : Possible k r → Possible (shown Composition (shows Composition r) k) r
-    unfolding shown
-    both-left p =
-        let five : length (start r) ≡ 5 = omega (arith, digits-length 2 (get recipe r)) in
-        let x : numberBehind (text "RC ") 2 (take 5 (shows Composition r)) ≡ digitsRead.Number (get recipe r) =
-        ap (numberBehind (text "RC ") 2) (take-at (start r) (space ∷ digits 8 (factor r)) 5 five) ∙
-        behind-left (text "RC ") 2 (get recipe r) (omega arith) (recipe-fits r (p .sound)) in
-        let y : numberBehind (space ∷ []) 8 (drop 5 (shows Composition r)) ≡ digitsRead.Number (factor r) =
-        ap (numberBehind (space ∷ []) 8) (drop-at (start r) (space ∷ digits 8 (factor r)) 5 five) ∙
-        behind-left (space ∷ []) 8 (factor r) (omega arith) (value-fits r (p .sound) (factorPlace (get recipe r)) (factor-held (get recipe r) (recipe-known r (p .sound)))) in
-        subst₂ (λ (d e : Digits). Possible (compositionShown d e k) r) (sym x) (sym y) (composition-left p)
+        let small = factor-within n (recipe-known r v) in
+        let five : length (start r) ≡ 5 = omega (arith, digits-length 2 n) in
+        let x : take 5 b ≡ start r = ap (take 5) (sym e) ∙ take-at (start r) (space ∷ digits 8 (factor r)) 5 five in
+        let y : drop 5 b ≡ space ∷ digits 8 (factor r) = ap (drop 5) (sym e) ∙ drop-at (start r) (space ∷ digits 8 (factor r)) 5 five in (
+          ap (numberBehind (text "RC ") 2) x ∙ behind-left (text "RC ") 2 n (omega arith) (field-fits r recipe 2 v (omega arith) (omega arith)),
+          ap (numberBehind (space ∷ []) 8) y ∙ behind-left (space ∷ []) 8 (factor r) (omega arith)
+              (field-fits r (value (factorPlace n)) 8 v (omega (arith, small)) (value-small (factorPlace n) small)),
+        )

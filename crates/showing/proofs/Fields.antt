@@ -1,133 +1,143 @@
--- What a shown field tells: a record is possible after tests of some fields exactly if it was possible before and passes them, and after
--- a number exactly if its field holds that number. By the laws of one cut of the knowledge. Assumes nothing.
+-- What is shown of one field is exact: a test that holds or not, as shown, and a number. By the laws of one cut of the knowledge. Assumes
+-- nothing.
 use Prim.Native.Nat.{ℕ, _≤_, _<_, _^_}
-use mathlib.Core.Bool.{Bool, true, false, _&&_}
-use mathlib.Core.Path.{_≡_, refl, sym, ap, subst}
-use mathlib.Core.List.{List, [], _∷_, _++_}
+use mathlib.Core.Bool.{Bool, true, false, not, _&&_, false≢true}
+use mathlib.Core.Path.{_≡_, refl, sym, ap, _∙_}
+use mathlib.Core.List.{List, _++_}
 use native.Mathlib.Omega.{arith}
 use lib.Dec.{eqb, ltb}
-use borrow.Author.Tests.{eq-eqb, eqb-true, ltb-true}
-use Rattle.base.proofs.Tests.{and-left, and-right}
+use borrow.Author.Tests.{eq-eqb, eqb-true, ltb-true, not-true}
+use Rattle.base.specs.Test.{unless}
+use Rattle.base.proofs.Tests.{and-left, and-right, between-high}
 use Rattle.state.specs.declared.Record.{Record}
 use Rattle.state.specs.Parameter.{parameterCount}
-use Rattle.state.specs.Field.{Field, value, get, position}
+use Rattle.state.specs.Field.{Field, access, value, get, position, fieldRange}
+use Rattle.state.specs.Valid.{valid}
 use Rattle.state.proofs.Fields.{Held}
-use Rattle.command.specs.declared.Digits.{Digits}
-use Rattle.command.specs.declared.Digits.the-variants.{Number, Nothing}
-use Rattle.command.specs.Word.{digits}
+use Rattle.state.proofs.Kept.{field-in}
+use Rattle.text.specs.declared.Digits.{Digits}
+use Rattle.text.specs.declared.Digits.the-variants.{Number, Nothing}
+use Rattle.text.specs.Word.{digits, equal}
+use Rattle.command.specs.Status.{Test, passes}
+use Rattle.text.proofs.Words.{equal-true, equal-same}
 use Rattle.knowledge.specs.declared.Knowledge.{Knowledge}
 use Rattle.knowledge.specs.Sets.{Kind, several, single, kindOf}
-use Rattle.knowledge.specs.Knowledge.{passing}
+use Rattle.knowledge.specs.Knowledge.{dead, passing}
 use Rattle.knowledge.proofs.Possible.{Possible, Kept}
 use Rattle.knowledge.proofs.Cut.{dead-none, dead-kept, passing-told, passing-left, passing-kept, holding-told, holding-left, holding-kept}
 use Rattle.showing.specs.Heard.{numberBehind}
-use Rattle.showing.specs.Shown.{Test, allHold, numberBy, numberShown}
-use Rattle.showing.proofs.Numbers.{behind-told, behind-left}
+use Rattle.showing.specs.Shown.{testShown, numberBy, numberShown}
+use Rattle.showing.proofs.Reading.{behind-told, behind-left}
 
--- ---- fields that a test may be of
+-- from knowledge k to knowledge l exactly those records are left of which P holds, and what is kept stays kept
+pub record Shows (a c : ℕ) (k l : Knowledge) (P : Record → Type 0) : Type 0 where
+  pub kept : Kept a c l
+  pub told : (r : Record) → Possible l r → Possible k r × P r
+  pub left : (r : Record) → Possible k r → P r → Possible l r
 
--- a field of the record that may hold one of several small numbers
-pub record Small (f : Field) : Type 0 where
-  pub held : Held f
-  pub kind : kindOf f ≡ several
+-- it holds of every record
+pub all-shown : {a c : ℕ} (k : Knowledge) (P : Record → Type 0) → Kept a c k → ((r : Record) → P r) → Shows a c k k P
+all-shown k P kept h = record { kept = kept; told = λ r p. (p, h r); left = λ r p e. p }
 
+-- the same shown in other words, of a valid record
+pub shown-as : {a c : ℕ} (k l : Knowledge) (P Q : Record → Type 0) → ((r : Record) → valid r ≡ true → P r → Q r)
+    → ((r : Record) → valid r ≡ true → Q r → P r) → Shows a c k l P → Shows a c k l Q
+shown-as k l P Q to from s =
+    record {
+      kept = s .kept;
+      told = λ r p. let t = s .told r p in (t .0, to r (t .0 .sound) (t .1));
+      left = λ r p e. s .left r p (from r (p .sound) e);
+    }
+
+pub both-shown : {a c : ℕ} (k l m : Knowledge) (P Q : Record → Type 0) → Shows a c k l P → Shows a c l m Q → Shows a c k m (λ r. P r × Q r)
+both-shown k l m P Q s t =
+    record {
+      kept = t .kept;
+      told = λ r p. let later = t .told r p in let now = s .told r (later .0) in (now .0, (now .1, later .1));
+      left = λ r p e. t .left r (s .left r p (e .0)) (e .1);
+    }
+
+-- refuted unless the reply has a form, which that of every record has
+pub unless-shown : {a c : ℕ} (t : Bool) (k l : Knowledge) (P : Record → Type 0) → Kept a c k → (t ≡ true → Shows a c k l P)
+    → ((r : Record) → valid r ≡ true → P r → t ≡ true) → Shows a c k (unless t (dead k) l) P
+unless-shown true k l P kept s h = s refl
+unless-shown false k l P kept s h =
+    record { kept = dead-kept k kept; told = λ r p. absurd (dead-none k r p); left = λ r p e. absurd (false≢true (h r (p .sound) e)) }
+
+-- the reply is a word
+pub word-shown : {a c : ℕ} (w b : List ℕ) (k : Knowledge) → Kept a c k → Shows a c k (unless (equal b w) (dead k) k) (λ r. w ≡ b)
+word-shown w b k kept =
+    unless-shown (equal b w) k k (λ r. w ≡ b) kept (λ e. all-shown k (λ r. w ≡ b) kept (λ r. sym (equal-true b w e)))
+    (λ r v e. ap (λ (x : List ℕ). equal x w) (sym e) ∙ equal-same w)
+
+-- ---- a test
 abbrev isSeveral : Kind → Bool
 isSeveral several = true
 isSeveral single = false
 
--- the same, by computation
+is-several : (kind : Kind) → isSeveral kind ≡ true → kind ≡ several
+is-several several h = refl
+is-several single h = absurd (false≢true h)
+
+-- a field of the record that may hold one of several small numbers
 abbrev pub isSmall : Field → Bool
 isSmall f = ltb (position f) (position (value parameterCount)) && isSeveral (kindOf f)
 
-pub is-small : (f : Field) → isSmall f ≡ true → Small f
-is-small f e =
-    let l = and-left (ltb (position f) (position (value parameterCount))) (isSeveral (kindOf f)) e in
-    record { held = ltb-true _ _ l; kind = known (kindOf f) (and-right (ltb (position f) (position (value parameterCount))) (isSeveral (kindOf f)) e) }
+passing-shown : {a c : ℕ} (k : Knowledge) (f : Field) (p : ℕ → Bool) → Kept a c k → Held f → kindOf f ≡ several
+    → Shows a c k (passing f p k) (λ r. p (get f r) ≡ true)
+passing-shown k f p kept held kind =
+    record {
+      kept = passing-kept k f p kept held kind;
+      told = λ r t. passing-told k r f p (kept .full) held kind t;
+      left = λ r t e. passing-left k r f p (kept .full) held kind t e;
+    }
+
+pub test-shown : {a c : ℕ} (b : Bool) (t : Test) (k : Knowledge) → Kept a c k → isSmall (t .field) ≡ true
+    → Shows a c k (testShown b t k) (λ r. b ≡ passes t r)
+test-shown {a} {c} b t k kept h = go b
   where
-    known : (kind : Kind) → isSeveral kind ≡ true → kind ≡ several
-    known several h = refl
-    known single h = let z : _≡_ {A = ℕ} 0 1 = cc in absurd (omega arith)
+    cut : (p : ℕ → Bool) → Shows a c k (passing (t .field) p k) (λ r. p (get (t .field) r) ≡ true)
+    cut p =
+        passing-shown k (t .field) p kept (ltb-true _ _ (and-left (ltb (position (t .field)) (position (value parameterCount))) _ h))
+        (is-several (kindOf (t .field)) (and-right (ltb (position (t .field)) (position (value parameterCount))) _ h))
 
--- ---- several tests
-abbrev pub allSmall : List Test → Bool
-allSmall [] = true
-allSmall (t ∷ ts) = isSmall (t .field) && allSmall ts
-
-abbrev pub Passing : List Test → Record → Type 0
-Passing [] r = Unit
-Passing (t ∷ ts) r = (t .holds (get (t .field) r) ≡ true) × Passing ts r
-
-first-small : (t : Test) (ts : List Test) → allSmall (t ∷ ts) ≡ true → Small (t .field)
-first-small t ts h = is-small (t .field) (and-left (isSmall (t .field)) (allSmall ts) h)
-
-rest-small : (t : Test) (ts : List Test) → allSmall (t ∷ ts) ≡ true → allSmall ts ≡ true
-rest-small t ts h = and-right (isSmall (t .field)) (allSmall ts) h
-
-pub tests-kept : {a c : ℕ} (ts : List Test) (k : Knowledge) → Kept a c k → allSmall ts ≡ true → Kept a c (allHold ts k)
-unfolding allHold
-tests-kept [] k kept h = kept
-tests-kept (t ∷ ts) k kept h =
-    let s = first-small t ts h in
-    tests-kept ts (passing (t .field) (t .holds) k) (passing-kept k (t .field) (t .holds) kept (s .held) (s .kind)) (rest-small t ts h)
-
-pub tests-told : {a c : ℕ} (ts : List Test) (k : Knowledge) (r : Record) → Kept a c k → allSmall ts ≡ true → Possible (allHold ts k) r
-    → Possible k r × Passing ts r
-unfolding allHold
-tests-told [] k r kept h p = (p, tt)
-tests-told (t ∷ ts) k r kept h p =
-    let s = first-small t ts h in
-    let next = passing-kept k (t .field) (t .holds) kept (s .held) (s .kind) in
-    let later = tests-told ts (passing (t .field) (t .holds) k) r next (rest-small t ts h) p in
-    let now = passing-told k r (t .field) (t .holds) (kept .full) (s .held) (s .kind) (later .0) in
-    (now .0, (now .1, later .1))
-
-pub tests-left : {a c : ℕ} (ts : List Test) (k : Knowledge) (r : Record) → Kept a c k → allSmall ts ≡ true → Possible k r → Passing ts r
-    → Possible (allHold ts k) r
-unfolding allHold
-tests-left [] k r kept h p e = p
-tests-left (t ∷ ts) k r kept h p e =
-    let s = first-small t ts h in
-    let next = passing-kept k (t .field) (t .holds) kept (s .held) (s .kind) in
-    tests-left ts (passing (t .field) (t .holds) k) r next (rest-small t ts h)
-    (passing-left k r (t .field) (t .holds) (kept .full) (s .held) (s .kind) p (e .0))
-    (e .1)
+    go : (d : Bool) → Shows a c k (testShown d t k) (λ r. d ≡ passes t r)
+    go true = shown-as k _ (λ r. passes t r ≡ true) (λ r. true ≡ passes t r) (λ r v e. sym e) (λ r v e. sym e) (cut (t .holds))
+    go false =
+        shown-as k _ (λ r. not (passes t r) ≡ true) (λ r. false ≡ passes t r) (λ r v e. sym (not-true (passes t r) e)) (λ r v e. ap not (sym e))
+        (cut (λ n. not (t .holds n)))
 
 -- ---- a number
-module _ {a c : ℕ} (k : Knowledge) (f : Field) (kept : Kept a c k) (held : Held f) where
-  kept-by : (d : Digits) (kind : Kind) → kindOf f ≡ kind → 2 ≤ position f → Kept a c (numberBy kind f d k)
-  kept-by (Number n) several e h = passing-kept k f (λ m. eqb m n) kept held e
-  kept-by (Number n) single e h = holding-kept k f n kept held e h
-  kept-by Nothing several e h = dead-kept k kept
-  kept-by Nothing single e h = dead-kept k kept
+pub same-number : (m n : ℕ) → Number m ≡ Number n → n ≡ m
+same-number m n e = cc
 
-  pub number-kept : (d : Digits) → 2 ≤ position f → Kept a c (numberShown f d k)
-  number-kept d h = kept-by d (kindOf f) refl h
+pub no-number : (n : ℕ) → Nothing ≡ Number n → ⊥
+no-number n e = let z : _≡_ {A = ℕ} 0 1 = cc in omega arith
 
-  module _ (r : Record) where
-    told-by : (d : Digits) (kind : Kind) → kindOf f ≡ kind → Possible (numberBy kind f d k) r → Possible k r × (d ≡ Number (get f r))
-    told-by (Number n) several e p =
-        let t = passing-told k r f (λ m. eqb m n) (kept .full) held e p in
-        (t .0, ap Number (sym (eqb-true (get f r) n (t .1))))
-    told-by (Number n) single e p = let t = holding-told k r f n (kept .full) held e p in (t .0, ap Number (sym (t .1)))
-    told-by Nothing several e p = absurd (dead-none k r p)
-    told-by Nothing single e p = absurd (dead-none k r p)
+pub number-shown : {a c : ℕ} (k : Knowledge) (f : Field) (d : Digits) → Kept a c k → Held f → position access < position f
+    → Shows a c k (numberShown f d k) (λ r. d ≡ Number (get f r))
+number-shown {a} {c} k f d kept held h = go d (kindOf f) refl
+  where
+    go : (x : Digits) (kind : Kind) → kindOf f ≡ kind → Shows a c k (numberBy kind f x k) (λ r. x ≡ Number (get f r))
+    go (Number n) several e =
+        shown-as k _ (λ r. eqb (get f r) n ≡ true) (λ r. Number n ≡ Number (get f r)) (λ r v q. ap Number (sym (eqb-true (get f r) n q)))
+        (λ r v q. eq-eqb (get f r) n (same-number n (get f r) q)) (passing-shown k f (λ m. eqb m n) kept held e)
+    go (Number n) single e =
+        record {
+          kept = holding-kept k f n kept held e h;
+          told = λ r p. let t = holding-told k r f n (kept .full) held e p in (t .0, ap Number (sym (t .1)));
+          left = λ r p q. holding-left k r f n (kept .full) held e p (same-number n (get f r) q);
+        }
+    go Nothing several e = unless-shown false k k (λ r. Nothing ≡ Number (get f r)) kept (λ q. absurd (false≢true q)) (λ r v q. absurd (no-number (get f r) q))
+    go Nothing single e = unless-shown false k k (λ r. Nothing ≡ Number (get f r)) kept (λ q. absurd (false≢true q)) (λ r v q. absurd (no-number (get f r) q))
 
-    left-by : (n : ℕ) (kind : Kind) → kindOf f ≡ kind → Possible k r → get f r ≡ n → Possible (numberBy kind f (Number n) k) r
-    left-by n several e p q = passing-left k r f (λ m. eqb m n) (kept .full) held e p (eq-eqb (get f r) n q)
-    left-by n single e p q = holding-left k r f n (kept .full) held e p q
+-- a field of a valid record fits a width that its range fits
+pub field-fits : (r : Record) (f : Field) (n : ℕ) → valid r ≡ true → Held f → fieldRange f .high < 10 ^ n → get f r < 10 ^ n
+field-fits r f n v held h = omega (arith, between-high (fieldRange f .low) (fieldRange f .high) (get f r) (field-in r v f held))
 
-    pub number-told : (d : Digits) → Possible (numberShown f d k) r → Possible k r × (d ≡ Number (get f r))
-    number-told d p = told-by d (kindOf f) refl p
-
-    pub number-left : (d : Digits) → Possible k r → d ≡ Number (get f r) → Possible (numberShown f d k) r
-    number-left d p e = subst (λ (x : Digits). Possible (numberShown f x k) r) (sym e) (left-by (get f r) (kindOf f) refl p refl)
-
-    -- ---- a number behind a word
-    module _ (w : List ℕ) (width : ℕ) where
-      pub printed-told : (b : List ℕ) → Possible (numberShown f (numberBehind w width b) k) r → Possible k r × (w ++ digits width (get f r) ≡ b)
-      printed-told b p =
-          let t = number-told (numberBehind w width b) p in
-          (t .0, sym (behind-told w width b (get f r) (t .1) .0))
-
-      pub printed-left : width ≤ 8 → get f r < 10 ^ width → Possible k r → Possible (numberShown f (numberBehind w width (w ++ digits width (get f r))) k) r
-      printed-left h l p = number-left (numberBehind w width (w ++ digits width (get f r))) p (behind-left w width (get f r) h l)
+-- a number behind a word
+pub numbered-shown : {a c : ℕ} (k : Knowledge) (w : List ℕ) (n : ℕ) (f : Field) (b : List ℕ) → Kept a c k → Held f → position access < position f
+    → fieldRange f .high < 10 ^ n → n ≤ 8 → Shows a c k (numberShown f (numberBehind w n b) k) (λ r. w ++ digits n (get f r) ≡ b)
+numbered-shown k w n f b kept held h l s =
+    shown-as k _ (λ r. numberBehind w n b ≡ Number (get f r)) (λ r. w ++ digits n (get f r) ≡ b) (λ r v e. sym (behind-told w n b (get f r) e .0))
+    (λ r v e. ap (numberBehind w n) (sym e) ∙ behind-left w n (get f r) s (field-fits r f n v held l)) (number-shown k f (numberBehind w n b) kept held h)

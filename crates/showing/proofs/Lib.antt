@@ -1,12 +1,8 @@
-pub mod Masks
 pub mod Reading
+pub mod Places
 pub mod Telling
+pub mod Fields
 pub mod Status
 pub mod Codes
-pub mod Numbers
-pub mod Fields
-pub mod Signs
-pub mod Listing
-pub mod Widths
 pub mod Composition
 pub mod Exact

@@ -1,56 +1,25 @@
--- One law for each return of the functions that read words and numbers in a reply. Assumes nothing.
-use Prim.Native.Nat.{ℕ, zero, suc, _+_, _-_, _*_, _/_, _%_, _≤_, _<_}
-use mathlib.Core.Bool.{Bool, true, false, not, _&&_, and-assoc}
-use mathlib.Core.Path.{_≡_, refl, sym, ap, _∙_}
+-- Words and numbers in a reply: one law for each return of the functions that read them, and that a number stands behind a word exactly if it
+-- was printed there. Assumes nothing.
+use Prim.Native.Nat.{ℕ, _+_, _-_, _/_, _%_, _≤_, _<_, _*_, _^_}
+use mathlib.Core.Bool.{Bool, not, true, false, _&&_, and-false}
+use mathlib.Core.Path.{_≡_, sym, ap, _∙_, refl}
 use mathlib.Core.List.{List, [], _∷_, _++_}
 use native.Mathlib.Omega.{arith}
-use lib.Dec.{eqb}
-use lib.ListN.{length, take, drop, length-append, length-take, length-drop}
-use lib.Seq.{take-all}
-use borrow.Author.Tests.{eq-eqb, ne-eqb, eqb-true, eqb-false, not-true, not-false}
-use Rattle.state.specs.declared.Place.{Place}
-use Rattle.state.specs.declared.Place.the-variants.{At, Nothing}
-use Rattle.state.specs.Parameter.{parameterCount, placeOf}
-use Rattle.state.proofs.Parameters.{code-has-place}
-use Rattle.command.specs.declared.Digits.{Digits}
-use Rattle.command.specs.declared.Digits.the-variants as digitsRead
-use Rattle.command.specs.Word.{digits, equal}
-use Rattle.command.specs.Commands.{placeNumber}
-use Rattle.command.specs.Request.{numberFor, placeFor}
-use Rattle.command.proofs.Parsing.{digits-length, equal-true, word-length}
-use Rattle.showing.specs.Heard.{numberBehind, refusalIn, parameterLabel}
-use Rattle.showing.proofs.Numbers.{behind-none}
-
--- ---- `offset`
-pub place-within : (p : ℕ) → placeFor p ≤ parameterCount
-place-within p = go (placeOf p) refl
-  where
-    go : (q : Place) → placeOf p ≡ q → placeNumber q ≤ parameterCount
-    go (At i) e = omega (arith, code-has-place p i e .0)
-    go Nothing e = omega arith
-
-pub offset-is : (p i : ℕ) → i ≡ placeFor p → (2 * i ≡ 2 * placeFor p) × (placeFor p ≤ parameterCount)
-offset-is p i e = (ap (λ (n : ℕ). 2 * n) e, place-within p)
-
--- ---- `stands`
-module _ (s w : List ℕ) (at : ℕ) where
-  pub stands-short : length s - at < length w → false ≡ equal (take (length w) (drop at s)) w
-  stands-short h =
-      let l : length (take (length w) (drop at s)) < length w = simp (length-take, length-drop) (omega arith) in
-      word-length (take (length w) (drop at s)) w (λ e. omega arith)
-
-  pub stands-as : (b : Bool) → b ≡ equal (take (at + length w - at) (drop at s)) w → b ≡ equal (take (length w) (drop at s)) w
-  stands-as b h =
-      let e : at + length w - at ≡ length w = omega arith in
-      h ∙ ap (λ (n : ℕ). equal (take n (drop at s)) w) e
-
-pub ruleset standing = (stands-short, stands-as)
-
--- a word that stands at a place ends within the text
-pub word-within : (s w : List ℕ) (at : ℕ) → at ≤ length s → equal (take (length w) (drop at s)) w ≡ true → at + length w ≤ length s
-word-within s w at l h =
-    let e : length (take (length w) (drop at s)) ≡ length w = ap length (equal-true (take (length w) (drop at s)) w h) in
-    omega (arith, length-take (length w) (drop at s), length-drop at s)
+use lib.ListN.{length, take, drop, length-drop, length-append, take-append-drop}
+use lib.Seq.{take-all, take-append-seam, drop-append-seam}
+use lib.Dec.{eqb, leb}
+use borrow.Author.Tests.{eq-eqb, ne-eqb, not-true, not-false, eqb-true, le-leb}
+use Rattle.base.specs.Text.{text}
+use Rattle.base.specs.Test.{pick}
+use Rattle.base.proofs.Tests.{and-left, and-right}
+use Rattle.state.specs.Parameter.{codeAt}
+use Rattle.text.specs.declared.Digits.{Digits}
+use Rattle.text.specs.declared.Digits.the-variants as digitsRead
+use Rattle.text.specs.Word.{digits, equal, valueOf, numberFor}
+use Rattle.command.specs.Commands.{parameterLabel}
+use Rattle.text.proofs.Words.{equal-true, digits-length, digits-all, value-digits, digits-value, value-below, equal-same, number-told}
+use Rattle.text.specs.declared.Digits.the-variants.{Number, Nothing}
+use Rattle.showing.specs.Heard.{startsWith, numberBehind}
 
 -- ---- `number_behind`
 module _ (w s : List ℕ) (width : ℕ) where
@@ -58,10 +27,7 @@ module _ (w s : List ℕ) (width : ℕ) where
   unfolding numberBehind
   behind-length h = simp (ne-eqb _ _ h)
 
-  module _ (l : length s ≡ length w + width) (b : Bool) (q : b ≡ equal (take (length w - 0) (drop 0 s)) w) where
-    e : b ≡ equal (take (length w) s) w
-    e = let m : length w - 0 ≡ length w = omega arith in q ∙ ap (λ (n : ℕ). equal (take n (drop 0 s)) w) m
-
+  module _ (l : length s ≡ length w + width) (b : Bool) (e : b ≡ startsWith w s) where
     pub behind-other : not b ≡ true → digitsRead.Nothing ≡ numberBehind w width s
     unfolding numberBehind
     behind-other h = simp (eq-eqb _ _ l, ← e, not-true b h)
@@ -75,95 +41,46 @@ module _ (w s : List ℕ) (width : ℕ) where
 
 pub ruleset behind-words = (behind-length, behind-other, behind-word)
 
--- ---- `refusal_in`
-pub refusal-as : (s : List ℕ) (d : Digits) → d ≡ numberBehind (0x4e ∷ 0x4f ∷ []) 2 s → d ≡ refusalIn s
-unfolding refusalIn
-refusal-as s d h = h
-
--- ---- `code_digits`
-pub code-printed : (n : ℕ) → (0x30 + n / 100 % 10) ∷ (0x30 + n / 10 % 10) ∷ (0x30 + n % 10) ∷ [] ≡ digits 3 n
+-- ---- `parameter_label`
+pub label-printed : (x i n : ℕ) → n ≡ codeAt i
+    → x ∷ 0x56 ∷ 0x20 ∷ (0x30 + n / 100 % 10) ∷ (0x30 + n / 10 % 10) ∷ (0x30 + n % 10) ∷ 0x20 ∷ [] ≡ parameterLabel (x ∷ text "V ") i
 unfolding digits
-code-printed n =
+label-printed x i n q =
     let e : n / 100 ≡ n / 10 / 10 = omega arith in
-    ap (λ (h : ℕ). (0x30 + h % 10) ∷ (0x30 + n / 10 % 10) ∷ (0x30 + n % 10) ∷ []) e
+    ap (λ (h : ℕ). x ∷ 0x56 ∷ 0x20 ∷ (0x30 + h % 10) ∷ (0x30 + n / 10 % 10) ∷ (0x30 + n % 10) ∷ 0x20 ∷ []) e ∙ ap (λ (c : ℕ). (x ∷ text "V ") ++ (digits 3 c ++ (0x20 ∷ []))) q
 
--- ---- a number behind two words, one after the other
-equal-both : (u v s : List ℕ)
-    → equal (take (length (u ++ v)) s) (u ++ v) ≡ (equal (take (length u) s) u && equal (take (length v) (drop (length u) s)) v)
-unfolding equal
-equal-both [] v s = refl
-equal-both (x ∷ u) v [] = refl
-equal-both (x ∷ u) v (y ∷ s) =
-    ap (λ (b : Bool). eqb y x && b) (equal-both u v s)
-    ∙ sym (and-assoc (eqb y x) (equal (take (length u) s) u) (equal (take (length v) (drop (length u) s)) v))
+-- what was read, if a test let anything be read
+picked : (t : Bool) (d : Digits) (n : ℕ) → pick t d Nothing ≡ Number n → (t ≡ true) × (d ≡ Number n)
+picked true d n e = (refl, e)
+picked false d n e = let z : _≡_ {A = ℕ} 0 1 = cc in absurd (omega arith)
 
-drop-none : (n : ℕ) → drop {A = ℕ} n [] ≡ []
-drop-none zero = refl
-drop-none (suc n) = refl
-
-drop-both : (u v s : List ℕ) → drop (length (u ++ v)) s ≡ drop (length v) (drop (length u) s)
-drop-both [] v s = refl
-drop-both (x ∷ u) v [] = sym (drop-none (length v))
-drop-both (x ∷ u) v (y ∷ s) = drop-both u v s
-
-module _ (u v s : List ℕ) (width : ℕ) where
-  behind-first : equal (take (length u) s) u ≡ false → digitsRead.Nothing ≡ numberBehind (u ++ v) width s
-  behind-first h =
-      sym (behind-none (u ++ v) width s (equal-both u v s ∙ ap (λ (b : Bool). b && equal (take (length v) (drop (length u) s)) v) h))
-
-  length-both : length u ≤ length s → eqb (length (drop (length u) s)) (length v + width) ≡ eqb (length s) (length (u ++ v) + width)
-  length-both h = go (eqb l m) refl
-    where
-      l : ℕ
-      l = length (drop (length u) s)
-
-      m : ℕ
-      m = length v + width
-
-      go : (t : Bool) → eqb l m ≡ t → t ≡ eqb (length s) (length (u ++ v) + width)
-      go true q =
-          let f : length s ≡ length (u ++ v) + width = omega (arith, eqb-true l m q, length-append u v, length-drop (length u) s) in
-          sym (eq-eqb _ _ f)
-      go false q =
-          sym (ne-eqb (length s) (length (u ++ v) + width) (λ f.
-          eqb-false l m q (omega (arith, length-append u v, length-drop (length u) s))))
-
-  behind-second : equal (take (length u) s) u ≡ true → numberBehind v width (drop (length u) s) ≡ numberBehind (u ++ v) width s
+-- ---- a number that was read is the number printed
+module _ (w : List ℕ) (width : ℕ) where
+  pub behind-told : (b : List ℕ) (n : ℕ) → numberBehind w width b ≡ Number n → (b ≡ w ++ digits width n) × (n < 10 ^ width)
   unfolding numberBehind
-  behind-second h =
-      let k : length u ≤ length s = omega (arith, word-within s u 0 (omega arith) h) in
-      simp (length-both k, equal-both u v s, h, drop-both u v s)
+  behind-told b n e =
+      let i = picked (eqb (length b) (length w + width) && equal (take (length w) b) w) (numberFor (drop (length w) b)) n e in
+      let l : length b ≡ length w + width = eqb-true _ _ (and-left (eqb (length b) (length w + width)) (equal (take (length w) b) w) (i .0)) in
+      let p : take (length w) b ≡ w = equal-true _ _ (and-right (eqb (length b) (length w + width)) (equal (take (length w) b) w) (i .0)) in
+      let d = number-told (drop (length w) b) n (i .1) in
+      let k : length (drop (length w) b) ≡ width = omega (arith, length-drop (length w) b) in
+      let q : digits width n ≡ drop (length w) b =
+      ap (digits width) (d .1) ∙ ap (λ (m : ℕ). digits m (valueOf (drop (length w) b))) (sym k) ∙ digits-value (drop (length w) b) (d .0) in
+      let s : valueOf (drop (length w) b) < (0 + 1) * 10 ^ length (drop (length w) b) = value-below (drop (length w) b) 0 (d .0) in
+      let m : n < 10 ^ length (drop (length w) b) = omega (arith, d .1) in (
+        sym (take-append-drop (length w) b) ∙ ap (λ (x : List ℕ). x ++ drop (length w) b) p ∙ ap (λ (x : List ℕ). w ++ x) (sym q),
+        rw k at m,
+      )
 
--- ---- `parameter_number`
-module _ (w s : List ℕ) (p width : ℕ) (b : Bool) (e : b ≡ equal (take (length w) (drop 0 s)) w) where
-  pub parameter-other : not b ≡ true → digitsRead.Nothing ≡ numberBehind (parameterLabel w p) width s
-  parameter-other h = behind-first w (digits 3 p ++ (0x20 ∷ [])) s width (sym e ∙ not-true b h)
+  -- ---- a number that was printed is read
+  pub behind-left : (n : ℕ) → width ≤ 8 → n < 10 ^ width → numberBehind w width (w ++ digits width n) ≡ Number n
+  unfolding numberBehind numberFor
+  behind-left n h l =
+      let e : length (w ++ digits width n) ≡ length w + width = omega (arith, length-append w (digits width n), digits-length width n) in
+      let s : leb (length (digits width n)) 8 ≡ true = le-leb (length (digits width n)) 8 (omega (arith, digits-length width n)) in
+      simp (eq-eqb _ _ e, take-append-seam w (digits width n), equal-same w, drop-append-seam w (digits width n), s, digits-all width n, value-digits width n)
 
-  module _ (h : not b ≡ false) where
-    pub code-room : length w ≤ length s
-    code-room = omega (arith, word-within s w 0 (omega arith) (sym e ∙ not-false b h))
-
-    behind-code : numberBehind (digits 3 p ++ (0x20 ∷ [])) width (drop (length w) s) ≡ numberBehind (parameterLabel w p) width s
-    behind-code = behind-second w (digits 3 p ++ (0x20 ∷ [])) s width (sym e ∙ not-false b h)
-
-    module _ (a : Bool) (c : List ℕ) (f : a ≡ equal (take (length c) (drop (length w) s)) c) (g : c ≡ digits 3 p) where
-      same : a ≡ equal (take (length (digits 3 p)) (drop (length w) s)) (digits 3 p)
-      same = f ∙ ap (λ (x : List ℕ). equal (take (length x) (drop (length w) s)) x) g
-
-      pub parameter-another : not a ≡ true → digitsRead.Nothing ≡ numberBehind (parameterLabel w p) width s
-      parameter-another k = behind-first (digits 3 p) (0x20 ∷ []) (drop (length w) s) width (sym same ∙ not-true a k) ∙ behind-code
-
-      pub number-room : not a ≡ false → length w + 3 ≤ length s
-      number-room k = omega (arith, digits-length 3 p, word-within s (digits 3 p) (length w) code-room (sym same ∙ not-false a k))
-
-      pub parameter-read : (d : Digits) → not a ≡ false → d ≡ numberBehind (0x20 ∷ []) width (take (length s - (length w + 3)) (drop (length w + 3) s))
-          → d ≡ numberBehind (parameterLabel w p) width s
-      parameter-read d k z =
-          let l : length (w ++ digits 3 p) ≡ length w + 3 = omega (arith, length-append w (digits 3 p), digits-length 3 p) in
-          let t : drop (length w + 3) s ≡ drop (length (digits 3 p)) (drop (length w) s) = ap (λ (n : ℕ). drop n s) (sym l) ∙ drop-both w (digits 3 p) s in
-          let r : take (length s - (length w + 3)) (drop (length w + 3) s) ≡ drop (length w + 3) s
-          = take-all (length s - (length w + 3)) (drop (length w + 3) s) (omega (arith, length-drop (length w + 3) s)) in
-          z ∙ (ap (numberBehind (0x20 ∷ []) width) (r ∙ t)
-          ∙ (behind-second (digits 3 p) (0x20 ∷ []) (drop (length w) s) width (sym same ∙ not-false a k) ∙ behind-code))
-
-pub ruleset parameter-numbers = (parameter-other, parameter-another, parameter-read)
+  -- where another word stands there is no number
+  pub behind-none : (b : List ℕ) → equal (take (length w) b) w ≡ false → numberBehind w width b ≡ Nothing
+  unfolding numberBehind
+  behind-none b e = simp (e, and-false)

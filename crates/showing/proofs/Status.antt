@@ -1,184 +1,216 @@
--- One law for each return of the functions that read the reply to EQ. A set that a bit shows is computed for both values of the bit.
--- Assumes nothing.
-use Prim.Native.Nat.{ℕ, zero, suc, _/_, _%_, _<_}
-use mathlib.Core.Bool.{Bool, true, false, not, _&&_, false≢true}
-use mathlib.Core.Path.{_≡_, refl, sym, ap, _∙_}
-use mathlib.Core.List.{List, [], _∷_}
+-- EQ: one law for each return of the functions that read its reply; and it shows exactly the records of the status characters. By induction
+-- over the lists of bits: each bit is a test of one field, and the bits that are read in a character are those that were printed, computed
+-- over all choices of a list's bits. Assumes nothing.
+use Prim.Native.Nat.{ℕ, suc, _+_, _<_, _*_}
+use mathlib.Core.Bool.{Bool, true, false, not, false≢true, _&&_}
+use mathlib.Core.Path.{_≡_, refl, sym, ap, _∙_, subst}
+use mathlib.Core.List.{List, [], _∷_, map}
 use native.Mathlib.Omega.{arith}
+use lib.Bits.{bitAnd}
 use lib.Dec.{eqb}
-use lib.ListN.{length, getD}
-use borrow.Author.Tests.{eq-eqb, eqb-true, not-true, not-false}
-use Rattle.base.specs.Test.{pick, between, allBetween}
-use Rattle.base.proofs.Tests.{and-yes, and-left, and-right, between-yes}
-use Rattle.state.specs.Field.{Field, phase, keypad, flow, changed, reset, powerfail, position}
-use Rattle.state.specs.Event.{set, running, stopped, done}
-use Rattle.command.specs.Word.{equal}
+use lib.ListN.{length, getD, drop}
+use borrow.Author.Tests.{eq-eqb, ne-eqb, not-true, not-false, eqb-true}
+use Rattle.base.specs.Test.{pick}
+use Rattle.base.proofs.Tests.{by-test, and-right, allBelow, holds-below, and-yes, and-left}
+use Rattle.state.specs.declared.Record.{Record}
+use Rattle.state.specs.Field.{flagNumber}
+use Rattle.text.specs.Word.{equal}
+use Rattle.command.specs.Status.{Bit, first, second, fourth, characters, passes, weightIn, statusCharacters}
 use Rattle.knowledge.specs.declared.Knowledge.{Knowledge}
-use Rattle.knowledge.specs.Sets.{maskFrom, maskIn}
-use Rattle.knowledge.specs.Knowledge.{dead, narrowed, passing}
-use Rattle.showing.specs.Heard.{lit, isCharacter, statusFormed}
-use Rattle.showing.specs.Shown.{allHold, isOn, among, firstTests, secondTests, fourthTests, statusShown}
+use Rattle.knowledge.specs.Knowledge.{dead, restricted}
+use Rattle.knowledge.proofs.Possible.{Kept}
+use Rattle.showing.specs.Heard.{lit, weightLit, charactersFormed}
+use Rattle.showing.specs.Shown.{bitsShown, charactersShown, statusShown, testShown}
+use Rattle.showing.proofs.Fields.{Shows, all-shown, shown-as, both-shown, unless-shown, isSmall, test-shown}
 
--- ---- `show_first`, `show_second`, `show_fourth`
+-- ---- `show_bit`
+module _ (p x w m n : ℕ) (k r : Knowledge) where
+  pub bit-set : bitAnd x w ≡ w → r ≡ restricted p m k → r ≡ restricted p (pick (lit w x) m n) k
+  bit-set h e = e ∙ sym (ap (λ (t : Bool). restricted p (pick t m n) k) (eq-eqb _ _ h))
 
--- a field passes a test or fails it, as a bit shows
-abbrev chosen : Bool → (ℕ → Bool) → ℕ → Bool
-chosen b p n = pick b (p n) (not (p n))
+  pub bit-clear : (bitAnd x w ≡ w → ⊥) → r ≡ restricted p n k → r ≡ restricted p (pick (lit w x) m n) k
+  bit-clear h e = e ∙ sym (ap (λ (t : Bool). restricted p (pick t m n) k) (ne-eqb _ _ h))
 
--- the two sets of a test, as the code names them
-abbrev Sets : Field → (ℕ → Bool) → ℕ → ℕ → Type 0
-Sets f p w o = (w ≡ maskIn f p) × (o ≡ maskIn f (λ n. not (p n)))
+pub ruleset bits-read = (bit-set, bit-clear)
 
-chosen-set : (f : Field) (p : ℕ → Bool) (w o : ℕ) → Sets f p w o → (b : Bool) → pick b w o ≡ maskIn f (chosen b p)
-chosen-set f p w o sets true = sets .0
-chosen-set f p w o sets false = sets .1
+-- ---- `show_first`, `show_second`, `show_fourth`: one bit behind another
+module _ (x : ℕ) (b : Bit) (bs : List Bit) (k l r : Knowledge) where
+  pub bit-shown : l ≡ testShown (lit (b .weight) x) (b .if) k → r ≡ bitsShown x bs l → r ≡ bitsShown x (b ∷ bs) k
+  unfolding bitsShown
+  bit-shown e h = h ∙ ap (bitsShown x bs) e
 
-flag-sets : Sets keypad isOn 0x2 0x1
-unfolding maskFrom
-flag-sets = (refl, refl)
+pub none-shown : (x : ℕ) (k : Knowledge) → k ≡ bitsShown x [] k
+unfolding bitsShown
+none-shown x k = refl
 
-phase-sets : Sets phase (among (running ∷ [])) 0x4 0x1b × Sets phase (among (set ∷ running ∷ stopped ∷ [])) 0xe 0x11
-    × Sets phase (among (running ∷ stopped ∷ [])) 0xc 0x13 × Sets phase (among (done ∷ [])) 0x10 0xf
-unfolding maskFrom
-phase-sets = ((refl, refl), (refl, refl), (refl, refl), (refl, refl))
+pub ruleset bits-told = (bit-shown, none-shown)
 
--- one test behind others
-passed : (f : Field) (p : ℕ → Bool) (w o : ℕ) → Sets f p w o → (b t : Bool) (k l m : Knowledge) → b ≡ t → m ≡ narrowed (position f) (pick b w o) l → l ≡ k
-    → m ≡ passing f (chosen t p) k
-passed f p w o sets b t k l m e h q =
-    h ∙ (ap (λ (x : Knowledge). narrowed (position f) (pick b w o) x) q
-    ∙ ap (λ (x : ℕ). narrowed (position f) x k) (chosen-set f p w o sets b ∙ ap (λ (c : Bool). maskIn f (chosen c p)) e))
+-- ---- `characters_formed`
 
-module _ (x : ℕ) (k a b c d : Knowledge) (t u v w : Bool) where
-  pub first-read : t ≡ lit 8 x → a ≡ narrowed 3 (pick t 0x2 0x1) k → u ≡ lit 4 x → b ≡ narrowed 2 (pick u 0x4 0x1b) a
-      → v ≡ lit 2 x → c ≡ narrowed 4 (pick v 0x2 0x1) b → w ≡ lit 1 x → d ≡ narrowed 2 (pick w 0xe 0x11) c → d ≡ allHold (firstTests x) k
-  unfolding allHold
-  first-read t′ a′ u′ b′ v′ c′ w′ d′ =
-      passed phase _ _ _ (phase-sets .1) w (lit 1 x) _ c d w′ d′
-      (passed flow _ _ _ flag-sets v (lit 2 x) _ b c v′ c′
-      (passed phase _ _ _ (phase-sets .0) u (lit 4 x) _ a b u′ b′ (passed keypad _ _ _ flag-sets t (lit 8 x) _ k a t′ a′ refl)))
+-- a character has the form of a list of bits exactly if its other bits are those of 0x30; computed over all bytes
+abbrev same : Bool → Bool → Bool
+same true b = b
+same false b = not b
 
-module _ (x : ℕ) (k a b c : Knowledge) (t u v : Bool) where
-  pub second-read : t ≡ lit 8 x → a ≡ narrowed 2 (pick t 0xc 0x13) k → u ≡ lit 4 x → b ≡ narrowed 2 (pick u 0x10 0xf) a
-      → v ≡ lit 2 x → c ≡ narrowed 6 (pick v 0x2 0x1) b → c ≡ allHold (secondTests x) k
-  unfolding allHold
-  second-read t′ a′ u′ b′ v′ c′ =
-      passed reset _ _ _ flag-sets v (lit 2 x) _ b c v′ c′
-      (passed phase _ _ _ (phase-sets .3) u (lit 4 x) _ a b u′ b′ (passed phase _ _ _ (phase-sets .2) t (lit 8 x) _ k a t′ a′ refl))
+same-as : (a b : Bool) → same a b ≡ true → a ≡ b
+same-as true b e = sym e
+same-as false b e = sym (not-true b e)
 
-module _ (x : ℕ) (k a b : Knowledge) (t u : Bool) where
-  pub fourth-read : t ≡ lit 8 x → a ≡ narrowed 5 (pick t 0x2 0x1) k → u ≡ lit 1 x → b ≡ narrowed 7 (pick u 0x2 0x1) a → b ≡ allHold (fourthTests x) k
-  unfolding allHold
-  fourth-read t′ a′ u′ b′ =
-      passed powerfail _ _ _ flag-sets u (lit 1 x) _ a b u′ b′ (passed changed _ _ _ flag-sets t (lit 8 x) _ k a t′ a′ refl)
+abbrev both : ℕ → List Bit → ℕ → Bool
+both m bs x = same (eqb (bitAnd x m) 0x30) (eqb x (0x30 + weightLit x bs))
 
--- ---- `status_formed`
-fails : (b : Bool) → (b ≡ true → ⊥) → false ≡ b
-fails true h = absurd (h refl)
-fails false h = refl
+others : (m : ℕ) (bs : List Bit) → allBelow (both m bs) 256 ≡ true → (x : ℕ) → x < 256 → eqb (bitAnd x m) 0x30 ≡ eqb x (0x30 + weightLit x bs)
+others m bs h x l = same-as _ _ (holds-below (both m bs) 256 h x l)
 
-and-last : (b : Bool) → (b && true) ≡ b
-and-last true = refl
-and-last false = refl
-
--- each of several numbers is in the range
-all-at : (low high : ℕ) (s : List ℕ) (i : ℕ) → i < length s → allBetween low high s ≡ true → between low high (getD s i 0) ≡ true
-unfolding allBetween
-all-at low high [] i l h = absurd (omega arith)
-all-at low high (x ∷ s) zero l h = and-left (between low high x) (allBetween low high s) h
-all-at low high (x ∷ s) (suc i) l h = all-at low high s i (omega arith) (and-right (between low high x) (allBetween low high s) h)
-
--- what a status of the right form has
-record Formed (s : List ℕ) : Type 0 where
-  size : length s ≡ 6
-  first : isCharacter (getD s 0 0) ≡ true
-  second : isCharacter (getD s 1 0) ≡ true
-  even : getD s 1 0 % 2 ≡ 0
-  third : getD s 2 0 ≡ 0x30
-  fourth : isCharacter (getD s 3 0) ≡ true
-  ends : getD s 3 0 / 2 % 4 ≡ 0
-  fifth : getD s 4 0 ≡ 0x30
-  sixth : getD s 5 0 ≡ 0x30
-
-taken-apart : (s : List ℕ) → statusFormed s ≡ true → Formed s
-unfolding statusFormed
-taken-apart s h =
-    let h1 = and-right (eqb (length s) 6) _ h in
-    let h2 = and-right (isCharacter (getD s 0 0)) _ h1 in
-    let p1 = and-left (isCharacter (getD s 1 0) && eqb (getD s 1 0 % 2) 0) _ h2 in
-    let h3 = and-right (isCharacter (getD s 1 0) && eqb (getD s 1 0 % 2) 0) _ h2 in
-    let h4 = and-right (eqb (getD s 2 0) 0x30) _ h3 in
-    let p3 = and-left (isCharacter (getD s 3 0) && eqb (getD s 3 0 / 2 % 4) 0) _ h4 in
-    let h5 = and-right (isCharacter (getD s 3 0) && eqb (getD s 3 0 / 2 % 4) 0) _ h4 in
-    record {
-      size = eqb-true _ _ (and-left (eqb (length s) 6) _ h);
-      first = and-left (isCharacter (getD s 0 0)) _ h1;
-      second = and-left (isCharacter (getD s 1 0)) _ p1;
-      even = eqb-true _ _ (and-right (isCharacter (getD s 1 0)) _ p1);
-      third = eqb-true _ _ (and-left (eqb (getD s 2 0) 0x30) _ h3);
-      fourth = and-left (isCharacter (getD s 3 0)) _ p3;
-      ends = eqb-true _ _ (and-right (isCharacter (getD s 3 0)) _ p3);
-      fifth = eqb-true _ _ (and-left (eqb (getD s 4 0) 0x30) _ h5);
-      sixth = eqb-true _ _ (and-right (eqb (getD s 4 0) 0x30) _ h5);
-    }
-
-character-48 : (x : ℕ) → x ≡ 0x30 → isCharacter x ≡ true
-character-48 x e = between-yes 0x30 0x3f x (omega arith) (omega arith)
-
-all-characters : (s : List ℕ) → Formed s → allBetween 0x30 0x3f s ≡ true
-unfolding allBetween
-all-characters [] f = absurd (omega (arith, f .size))
-all-characters (a ∷ []) f = absurd (omega (arith, f .size))
-all-characters (a ∷ b ∷ []) f = absurd (omega (arith, f .size))
-all-characters (a ∷ b ∷ c ∷ []) f = absurd (omega (arith, f .size))
-all-characters (a ∷ b ∷ c ∷ d ∷ []) f = absurd (omega (arith, f .size))
-all-characters (a ∷ b ∷ c ∷ d ∷ e ∷ []) f = absurd (omega (arith, f .size))
-all-characters (a ∷ b ∷ c ∷ d ∷ e ∷ g ∷ []) f =
-    and-yes (isCharacter a) _ (f .first)
-    (and-yes (isCharacter b) _ (f .second)
-    (and-yes (isCharacter c) _ (character-48 c (f .third))
-    (and-yes (isCharacter d) _ (f .fourth)
-    (and-yes (isCharacter e) _ (character-48 e (f .fifth)) (and-yes (isCharacter g) _ (character-48 g (f .sixth)) refl)))))
-all-characters (a ∷ b ∷ c ∷ d ∷ e ∷ g ∷ i ∷ s) f = absurd (omega (arith, f .size))
-
-module _ (s : List ℕ) where
-  pub formed-length : (length s ≡ 6 → ⊥) → false ≡ statusFormed s
-  formed-length h = fails (statusFormed s) (λ e. h (taken-apart s e .size))
-
-  pub formed-characters : (b : Bool) → b ≡ allBetween 0x30 0x3f s → not b ≡ true → false ≡ statusFormed s
-  formed-characters b e h = fails (statusFormed s) (λ y. false≢true (sym (sym e ∙ not-true b h) ∙ all-characters s (taken-apart s y)))
-
-  pub formed-even : (getD s 1 0 % 2 ≡ 0 → ⊥) → false ≡ statusFormed s
-  formed-even h = fails (statusFormed s) (λ e. h (taken-apart s e .even))
-
-  pub formed-ends : (getD s 3 0 / 2 % 4 ≡ 0 → ⊥) → false ≡ statusFormed s
-  formed-ends h = fails (statusFormed s) (λ e. h (taken-apart s e .ends))
-
-  pub formed-others : (b r : Bool) → length s ≡ 6 → b ≡ allBetween 0x30 0x3f s → not b ≡ false → getD s 1 0 % 2 ≡ 0 → getD s 3 0 / 2 % 4 ≡ 0
-      → r ≡ equal (getD s 2 0 ∷ getD s 4 0 ∷ getD s 5 0 ∷ []) (0x30 ∷ 0x30 ∷ 0x30 ∷ []) → r ≡ statusFormed s
-  unfolding statusFormed equal
-  formed-others b r l e h x y z =
-      let each : allBetween 0x30 0x3f s ≡ true = sym e ∙ not-false b h in
-      let p0 : isCharacter (getD s 0 0) ≡ true = all-at 0x30 0x3f s 0 (omega arith) each in
-      let p1 : isCharacter (getD s 1 0) ≡ true = all-at 0x30 0x3f s 1 (omega arith) each in
-      let p3 : isCharacter (getD s 3 0) ≡ true = all-at 0x30 0x3f s 3 (omega arith) each in
-      z ∙ simp (eq-eqb _ _ l, p0, p1, p3, eq-eqb _ _ x, eq-eqb _ _ y, and-last)
-
-pub ruleset status-forms = (formed-length, formed-characters, formed-even, formed-ends, formed-others)
+pub six-formed : (r : Bool) (a b c d e f : ℕ) → a < 256 → b < 256 → d < 256
+    → r ≡ equal (bitAnd a 0xf0 ∷ bitAnd b 0xf1 ∷ c ∷ bitAnd d 0xf6 ∷ e ∷ f ∷ []) (0x30 ∷ 0x30 ∷ 0x30 ∷ 0x30 ∷ 0x30 ∷ 0x30 ∷ [])
+    → r ≡ charactersFormed (a ∷ b ∷ c ∷ d ∷ e ∷ f ∷ []) characters
+unfolding equal charactersFormed weightLit
+six-formed r a b c d e f l m n h = h ∙ simp (others 0xf0 first refl a l, others 0xf1 second refl b m, others 0xf6 fourth refl d n)
 
 -- ---- `show_status`
-module _ (s : List ℕ) (f : Bool) (e : f ≡ statusFormed s) where
-  pub status-room : (i : ℕ) → not f ≡ false → i < 6 → i < length s
-  status-room i h l = omega (arith, taken-apart s (sym e ∙ not-false f h) .size)
+formed-length : (xs : List ℕ) (bss : List (List Bit)) → charactersFormed xs bss ≡ true → length xs ≡ length bss
+unfolding charactersFormed
+formed-length [] [] h = refl
+formed-length [] (bs ∷ bss) h = absurd (false≢true h)
+formed-length (x ∷ xs) [] h = absurd (false≢true h)
+formed-length (x ∷ xs) (bs ∷ bss) h = ap suc (formed-length xs bss (and-right (eqb x (0x30 + weightLit x bs)) _ h))
 
-  pub status-wrong : (k r : Knowledge) → not f ≡ true → r ≡ dead k → r ≡ statusShown s k
+abbrev firstSix : List ℕ → List ℕ
+firstSix s = getD s 0 0 ∷ getD s 1 0 ∷ getD s 2 0 ∷ getD s 3 0 ∷ getD s 4 0 ∷ getD s 5 0 ∷ []
+
+six : (s : List ℕ) → length s ≡ 6 → firstSix s ≡ s
+six [] e = absurd (omega arith)
+six (x ∷ []) e = absurd (omega arith)
+six (x ∷ y ∷ []) e = absurd (omega arith)
+six (x ∷ y ∷ z ∷ []) e = absurd (omega arith)
+six (x ∷ y ∷ z ∷ u ∷ []) e = absurd (omega arith)
+six (x ∷ y ∷ z ∷ u ∷ v ∷ []) e = absurd (omega arith)
+six (x ∷ y ∷ z ∷ u ∷ v ∷ w ∷ []) e = refl
+six (x ∷ y ∷ z ∷ u ∷ v ∷ w ∷ t ∷ s) e = absurd (omega arith)
+
+module _ (s : List ℕ) (k r : Knowledge) where
+  pub status-length : (length s ≡ 6 → ⊥) → r ≡ dead k → r ≡ statusShown s k
   unfolding statusShown
-  status-wrong k r h z = z ∙ simp (← e, not-true f h)
+  status-length h z = by-test (charactersFormed s characters) (λ e. absurd (h (formed-length s characters e))) (λ e. z ∙ simp e)
 
-  pub status-read : (k a b r : Knowledge) → not f ≡ false → a ≡ allHold (firstTests (getD s 0 0)) k → b ≡ allHold (secondTests (getD s 1 0)) a
-      → r ≡ allHold (fourthTests (getD s 3 0)) b → r ≡ statusShown s k
-  unfolding statusShown
-  status-read k a b r h x y z =
-      z ∙ (ap (allHold (fourthTests (getD s 3 0))) (y ∙ ap (allHold (secondTests (getD s 1 0))) x) ∙ simp (← e, not-false f h))
+  module _ (t : Bool) (l : length s ≡ 6)
+      (f : t ≡ charactersFormed (getD s 0 0 ∷ getD s 1 0 ∷ getD s 2 0 ∷ getD s 3 0 ∷ getD s 4 0 ∷ getD s 5 0 ∷ []) characters) where
+    pub status-wrong : not t ≡ true → r ≡ dead k → r ≡ statusShown s k
+    unfolding statusShown
+    status-wrong h z =
+        let u : dead k ≡ statusShown (firstSix s) k = simp (← f, not-true t h) in
+        z ∙ (u ∙ ap (λ (b : List ℕ). statusShown b k) (six s l))
 
-pub ruleset status-known = (status-wrong, status-read)
+    pub status-read : (a b : Knowledge) → not t ≡ false → a ≡ bitsShown (getD s 0 0) first k → b ≡ bitsShown (getD s 1 0) second a
+        → r ≡ bitsShown (getD s 3 0) fourth b → r ≡ statusShown s k
+    unfolding statusShown charactersShown bitsShown
+    status-read a b h x y z =
+        let u : charactersShown (firstSix s) characters k ≡ statusShown (firstSix s) k = simp (← f, not-false t h) in
+        z ∙ (ap (bitsShown (getD s 3 0) fourth) (y ∙ ap (bitsShown (getD s 1 0) second) x) ∙ (u ∙ ap (λ (b : List ℕ). statusShown b k) (six s l)))
+
+pub ruleset status-known = (status-length, status-wrong, status-read)
+
+-- ---- the bits of a character, and the tests that they tell
+abbrev Telling : Record → ℕ → List Bit → Type 0
+Telling r x [] = Unit
+Telling r x (b ∷ bs) = (lit (b .weight) x ≡ passes (b .if) r) × Telling r x bs
+
+same-weight : (r : Record) (x : ℕ) (bs : List Bit) → Telling r x bs → weightLit x bs ≡ weightIn r bs
+unfolding weightLit weightIn
+same-weight r x [] h = refl
+same-weight r x (b ∷ bs) h =
+    ap (λ (t : Bool). b .weight * flagNumber t + weightLit x bs) (h .0)
+    ∙ ap (λ (n : ℕ). b .weight * flagNumber (passes (b .if) r) + n) (same-weight r x bs (h .1))
+
+-- a test of x and the weights of some bits, for each choice of bits, that holds with those bits read as chosen
+abbrev eachChoice : (ℕ → Bool) → ℕ → List Bit → Bool
+eachChoice p x [] = p x
+eachChoice p x (b ∷ bs) = eachChoice (λ y. p y && not (lit (b .weight) y)) x bs && eachChoice (λ y. p y && lit (b .weight) y) (x + b .weight) bs
+
+chosen : (p : ℕ → Bool) (l : ℕ → Type 0) (x w m : ℕ) (t : Bool) → ((p (x + m) && not (lit w (x + m))) ≡ true) × l (x + m)
+    → ((p (x + w + m) && lit w (x + w + m)) ≡ true) × l (x + w + m)
+    → (p (x + (w * flagNumber t + m)) ≡ true) × ((lit w (x + (w * flagNumber t + m)) ≡ t) × l (x + (w * flagNumber t + m)))
+chosen p l x w m true f g =
+    let e : x + w + m ≡ x + (w * 1 + m) = omega arith in
+    subst (λ (y : ℕ). (p y ≡ true) × ((lit w y ≡ true) × l y)) e (and-left (p (x + w + m)) _ (g .0), (and-right (p (x + w + m)) _ (g .0), g .1))
+chosen p l x w m false f g =
+    let e : x + m ≡ x + (w * 0 + m) = omega arith in
+    subst (λ (y : ℕ). (p y ≡ true) × ((lit w y ≡ false) × l y)) e
+    (and-left (p (x + m)) _ (f .0), (not-true (lit w (x + m)) (and-right (p (x + m)) _ (f .0)), f .1))
+
+own-bits : (r : Record) (p : ℕ → Bool) (x : ℕ) (bs : List Bit) → eachChoice p x bs ≡ true → (p (x + weightIn r bs) ≡ true) × Telling r (x + weightIn r bs) bs
+unfolding weightIn
+own-bits r p x [] h = let e : x + 0 ≡ x = omega arith in (ap p e ∙ h, tt)
+own-bits r p x (b ∷ bs) h =
+    chosen p (λ y. Telling r y bs) x (b .weight) (weightIn r bs) (passes (b .if) r)
+    (own-bits r (λ y. p y && not (lit (b .weight) y)) x bs (and-left (eachChoice (λ y. p y && not (lit (b .weight) y)) x bs) _ h))
+    (own-bits r (λ y. p y && lit (b .weight) y) (x + b .weight) bs (and-right (eachChoice (λ y. p y && not (lit (b .weight) y)) x bs) _ h))
+
+-- ---- what the lists of bits are held to: small fields, and no choice of bits is read as another
+abbrev allSmall : List Bit → Bool
+allSmall [] = true
+allSmall (b ∷ bs) = isSmall (b .if .field) && allSmall bs
+
+abbrev sound : List (List Bit) → Bool
+sound [] = true
+sound (bs ∷ bss) = allSmall bs && (eachChoice (λ y. true) 0x30 bs && sound bss)
+
+characters-sound : sound characters ≡ true
+characters-sound = refl
+
+module _ (bs : List Bit) (bss : List (List Bit)) (h : sound (bs ∷ bss) ≡ true) where
+  first-small : allSmall bs ≡ true
+  first-small = and-left (allSmall bs) _ h
+
+  first-choice : eachChoice (λ y. true) 0x30 bs ≡ true
+  first-choice = and-left (eachChoice (λ y. true) 0x30 bs) _ (and-right (allSmall bs) _ h)
+
+  rest-sound : sound bss ≡ true
+  rest-sound = and-right (eachChoice (λ y. true) 0x30 bs) _ (and-right (allSmall bs) _ h)
+
+-- ---- one character
+bits-shown : {a c : ℕ} (x : ℕ) (bs : List Bit) (k : Knowledge) → Kept a c k → allSmall bs ≡ true → Shows a c k (bitsShown x bs k) (λ r. Telling r x bs)
+unfolding bitsShown
+bits-shown x [] k kept h = all-shown k (λ r. Unit) kept (λ r. tt)
+bits-shown x (b ∷ bs) k kept h =
+    let t = test-shown (lit (b .weight) x) (b .if) k kept (and-left (isSmall (b .if .field)) _ h) in
+    both-shown k _ _ (λ r. lit (b .weight) x ≡ passes (b .if) r) (λ r. Telling r x bs) t
+    (bits-shown x bs (testShown (lit (b .weight) x) (b .if) k) (t .kept) (and-right (isSmall (b .if .field)) _ h))
+
+-- ---- all characters
+abbrev charactersOf : Record → List (List Bit) → List ℕ
+charactersOf r bss = map (λ (bs : List Bit). 0x30 + weightIn r bs) bss
+
+characters-shown : {a c : ℕ} (xs : List ℕ) (bss : List (List Bit)) (k : Knowledge) → Kept a c k → sound bss ≡ true → charactersFormed xs bss ≡ true
+    → Shows a c k (charactersShown xs bss k) (λ r. charactersOf r bss ≡ xs)
+unfolding charactersShown charactersFormed
+characters-shown [] [] k kept h f = all-shown k (λ r. [] ≡ []) kept (λ r. refl)
+characters-shown [] (bs ∷ bss) k kept h f = absurd (false≢true f)
+characters-shown (x ∷ xs) [] k kept h f = absurd (false≢true f)
+characters-shown (x ∷ xs) (bs ∷ bss) k kept h f =
+    let t = bits-shown x bs k kept (first-small bs bss h) in
+    shown-as k _ (λ r. Telling r x bs × (charactersOf r bss ≡ xs)) (λ r. charactersOf r (bs ∷ bss) ≡ x ∷ xs)
+    (λ r v e.
+    let q : 0x30 + weightIn r bs ≡ x = omega (arith, eqb-true x (0x30 + weightLit x bs) (and-left (eqb x (0x30 + weightLit x bs)) _ f), same-weight r x bs (e .0)) in
+    ap (λ (y : ℕ). y ∷ charactersOf r bss) q ∙ ap (λ (ys : List ℕ). x ∷ ys) (e .1))
+    (λ r v e.
+    (subst (λ (y : ℕ). Telling r y bs) (ap (λ (ys : List ℕ). getD ys 0 0) e) (own-bits r (λ y. true) 0x30 bs (first-choice bs bss h) .1), ap (drop 1) e))
+    (both-shown k _ _ (λ r. Telling r x bs) (λ r. charactersOf r bss ≡ xs) t
+    (characters-shown xs bss (bitsShown x bs k) (t .kept) (rest-sound bs bss h) (and-right (eqb x (0x30 + weightLit x bs)) _ f)))
+
+own-formed : (r : Record) (bss : List (List Bit)) → sound bss ≡ true → charactersFormed (charactersOf r bss) bss ≡ true
+unfolding charactersFormed
+own-formed r [] h = refl
+own-formed r (bs ∷ bss) h =
+    let x : ℕ = 0x30 + weightIn r bs in
+    let e = same-weight r x bs (own-bits r (λ y. true) 0x30 bs (first-choice bs bss h) .1) in
+    and-yes (eqb x (0x30 + weightLit x bs)) _ (eq-eqb _ _ (ap (λ (n : ℕ). 0x30 + n) (sym e))) (own-formed r bss (rest-sound bs bss h))
+
+-- ---- EQ
+pub status-shown : {a c : ℕ} (b : List ℕ) (k : Knowledge) → Kept a c k → Shows a c k (statusShown b k) (λ r. statusCharacters r ≡ b)
+unfolding statusShown statusCharacters
+status-shown b k kept =
+    unless-shown (charactersFormed b characters) k (charactersShown b characters k) (λ r. statusCharacters r ≡ b) kept
+    (characters-shown b characters k kept characters-sound)
+    (λ r v e. ap (λ (xs : List ℕ). charactersFormed xs characters) (sym e) ∙ own-formed r characters characters-sound)

@@ -1,150 +1,161 @@
--- One law for each return of the functions that narrow what is known by a reply. Assumes nothing.
-use Prim.Native.Nat.{ℕ, _+_, _-_, _*_, _≤_, _<_}
-use mathlib.Core.Bool.{Bool, true, false, not, _&&_}
-use mathlib.Core.Path.{_≡_, sym, ap, _∙_}
-use mathlib.Core.List.{List, [], _∷_}
+-- One law for each return of the functions that restrict what is known by a number. Assumes nothing.
+use Prim.Native.Nat.{ℕ, zero, suc, _+_, _-_, _*_, _%_, _^_, _≤_, _<_}
+use mathlib.Core.Bool.{Bool, true, false, not, _&&_, and-false}
+use mathlib.Core.Path.{_≡_, refl, sym, ap, _∙_}
+use mathlib.Core.List.{[], _∷_, List}
 use native.Mathlib.Omega.{arith}
 use lib.Dec.{eqb}
 use lib.ListN.{length, take, drop, length-take, length-drop}
 use lib.Seq.{take-all}
-use borrow.Author.Tests.{not-true, not-false}
+use borrow.Author.Tests.{ne-eqb, not-true, not-false, eqb-true}
+use Rattle.base.specs.Test.{between}
+use Rattle.base.proofs.Tests.{holds-below, between-low}
 use Rattle.base.specs.Text.{text}
-use Rattle.base.specs.Test.{pick, between}
-use Rattle.base.proofs.Tests.{between-low, between-high}
+use Rattle.state.specs.Field.{recipe, value, level, position, fieldRange, flagNumber}
+use Rattle.state.specs.Valid.{within}
 use Rattle.state.specs.declared.Range.{Range}
-use Rattle.state.specs.Parameter.{range, rangeAt}
-use Rattle.command.specs.declared.Request.{Request}
-use Rattle.command.specs.declared.Request.the-variants as request
-use Rattle.command.specs.declared.Digits.{Digits}
-use Rattle.command.specs.declared.Digits.the-variants as digitsRead
-use Rattle.command.specs.Word.{equal}
-use Rattle.command.specs.Commands.{factorPlace}
-use Rattle.command.specs.Request.{placeFor}
+use Rattle.state.specs.Parameter.{recipes, parameterCount, rangeAt}
+use Rattle.command.specs.declared.Reading.{Reading}
+use Rattle.command.specs.declared.Reading.the-variants as reading
+use Rattle.text.specs.declared.Digits.{Digits}
+use Rattle.text.specs.declared.Digits.the-variants as digitsRead
+use Rattle.text.specs.Word.{equal}
+use Rattle.command.specs.Commands.{factorPlace, parameterLabel, acknowledged, composition, rowOf}
+use Rattle.command.specs.Request.{readingAs, replyOf}
+use Rattle.knowledge.specs.Sets.{maskFrom, maskOf, alone}
 use Rattle.knowledge.specs.declared.Knowledge.{Knowledge}
-use Rattle.knowledge.specs.Sets.{maskFrom}
-use Rattle.knowledge.specs.Knowledge.{dead, narrowed, told}
-use Rattle.showing.specs.Heard.{numberBehind, parameterLabel}
-use Rattle.showing.specs.Shown.{toldBy, narrowedBy, compositionShown, okShown, shown}
+use Rattle.knowledge.specs.Knowledge.{dead, restricted}
+use Rattle.showing.specs.Heard.{numberBehind}
+use Rattle.showing.specs.Shown.{offsetOf, toldBy, restrictedBy, numberShown, compositionShown, shown}
 use Rattle.showing.proofs.Reading.{behind-length}
+use Rattle.showing.proofs.Places.{restrict-by-placed, tell-by-placed}
 
--- ---- `show_number` and `show_small`
-module _ (p : ℕ) (g : Range) (d : Digits) (k r : Knowledge) where
-  pub tell-nothing : d ≡ digitsRead.Nothing → r ≡ dead k → r ≡ toldBy p g d k
-  tell-nothing e h = h ∙ sym (ap (λ (x : Digits). toldBy p g x k) e)
+-- a mask is settled by the tests of the numbers that it covers
+mask-same : (p q : ℕ → Bool) (n i : ℕ) → ((k : ℕ) → i ≤ k → k < i + n → p k ≡ q k) → maskFrom p n i ≡ maskFrom q n i
+unfolding maskFrom
+mask-same p q zero i h = refl
+mask-same p q (suc n) i h =
+    let e : flagNumber (p i) ≡ flagNumber (q i) = ap flagNumber (h i (omega arith) (omega arith)) in
+    let r : maskFrom p n (i + 1) ≡ maskFrom q n (i + 1) = mask-same p q n (i + 1) (λ k l u. h k (omega arith) (omega arith)) in
+    omega arith
 
-  pub tell-number : (n : ℕ) → d ≡ digitsRead.Number n → r ≡ told p g n k → r ≡ toldBy p g d k
-  tell-number n e h = h ∙ sym (ap (λ (x : Digits). toldBy p g x k) e)
+none : 0 ≡ maskOf (λ i. false)
+unfolding maskFrom
+none = refl
 
-  pub narrow-nothing : d ≡ digitsRead.Nothing → r ≡ dead k → r ≡ narrowedBy p g d k
-  narrow-nothing e h = h ∙ sym (ap (λ (x : Digits). narrowedBy p g x k) e)
+-- 1 shifted by n places, as the code has it, is the mask of n alone: by computation over all numbers
+abbrev shifted : ℕ → ℕ
+shifted n = (1 * 2 ^ n) % 2 ^ 32
 
-  pub narrow-number : (n m : ℕ) → d ≡ digitsRead.Number n → m ≡ maskFrom (λ i. between (g .low) (g .high) i && eqb i n) 9 0 → r ≡ narrowed p m k
-      → r ≡ narrowedBy p g d k
-  narrow-number n m e z h = h ∙ (ap (λ (x : ℕ). narrowed p x k) z ∙ sym (ap (λ (x : Digits). narrowedBy p g x k) e))
+each : (n : ℕ) → n ≤ recipes → shifted n ≡ maskOf (λ i. eqb i n)
+unfolding maskFrom
+each n h = eqb-true (shifted n) _ (holds-below (λ m. eqb (shifted m) (maskOf (λ i. eqb i m))) (recipes + 1) refl n (omega arith))
 
-pub ruleset telling = (tell-nothing, tell-number)
+module _ (low high n : ℕ) (b : Bool) (e : b ≡ between low high n) where
+  -- the range is tested at n
+  alone-as : (q : ℕ → Bool) → ((k : ℕ) → k < recipes + 1 → (b && eqb k n) ≡ q k) → maskOf q ≡ maskOf (λ i. between low high i && eqb i n)
+  alone-as q h = sym (mask-same (λ i. between low high i && eqb i n) q (recipes + 1) 0 (λ k l u. go k (eqb k n) refl ∙ h k u))
+    where
+      go : (k : ℕ) (t : Bool) → eqb k n ≡ t → (between low high k && eqb k n) ≡ (b && eqb k n)
+      go k true z = ap (λ (m : ℕ). between low high m && eqb k n) (eqb-true k n z) ∙ ap (λ (t : Bool). t && eqb k n) (sym e)
+      go k false z = ap (λ (t : Bool). between low high k && t) z ∙ and-false (between low high k) ∙ sym (and-false b) ∙ ap (λ (t : Bool). b && t) (sym z)
 
-pub ruleset narrowing = (narrow-nothing, narrow-number)
+  pub alone-outside : not b ≡ true → 0 ≡ maskOf (λ i. between low high i && eqb i n)
+  alone-outside h = none ∙ alone-as (λ k. false) (λ k u. ap (λ (t : Bool). t && eqb k n) (not-true b h))
 
--- ---- `show_ok` and `show_either`
+  pub alone-above : recipes < n → 0 ≡ maskOf (λ i. between low high i && eqb i n)
+  alone-above h = none ∙ alone-as (λ k. false) (λ k u. ap (λ (t : Bool). b && t) (ne-eqb k n (λ q. omega arith)) ∙ and-false b)
+
+  pub alone-inside : not b ≡ false → n ≤ recipes → shifted n ≡ maskOf (λ i. between low high i && eqb i n)
+  alone-inside h l = each n l ∙ alone-as (λ k. eqb k n) (λ k u. ap (λ (t : Bool). t && eqb k n) (not-false b h))
+
+-- ---- `show_number` and `show_small`: d is what was read
+module _ (p : ℕ) (g : Range) (d e : Digits) (k r : Knowledge) (z : e ≡ d) where
+  pub tell-as : (x : Digits) → e ≡ x → r ≡ toldBy p g x k → r ≡ toldBy p g d k
+  tell-as x q h = h ∙ ap (λ (y : Digits). toldBy p g y k) (sym q ∙ z)
+
+  pub restrict-nothing : e ≡ digitsRead.Nothing → r ≡ dead k → r ≡ restrictedBy p g d k
+  restrict-nothing q h = h ∙ ap (λ (x : Digits). restrictedBy p g x k) (sym q ∙ z)
+
+  pub restrict-number : (n m : ℕ) → e ≡ digitsRead.Number n → m ≡ maskOf (λ i. within g i && eqb i n) → r ≡ restricted p m k
+      → r ≡ restrictedBy p g d k
+  restrict-number n m q u h = h ∙ (ap (λ (x : ℕ). restricted p x k) u ∙ ap (λ (x : Digits). restrictedBy p g x k) (sym q ∙ z))
+
+pub ruleset restricting = (restrict-nothing, restrict-number)
+
+-- ---- `show_ok`
 module _ (s : List ℕ) (k : Knowledge) (b : Bool) (e : b ≡ equal s (0x4f ∷ 0x4b ∷ [])) where
-  pub ok-stands : b ≡ true → k ≡ okShown s k
+  pub ok-stands : b ≡ true → k ≡ shown acknowledged s k
+  unfolding shown
   ok-stands h = simp (← e, h)
 
-  pub ok-fails : (r : Knowledge) → b ≡ false → r ≡ dead k → r ≡ okShown s k
+  pub ok-fails : (r : Knowledge) → b ≡ false → r ≡ dead k → r ≡ shown acknowledged s k
+  unfolding shown
   ok-fails r h z = z ∙ simp (← e, h)
 
 pub ruleset ok-read = (ok-stands, ok-fails)
 
-module _ (p w o : ℕ) (b : Bool) (k r : Knowledge) where
-  pub either-with : b ≡ true → r ≡ narrowed p w k → r ≡ narrowed p (pick b w o) k
-  either-with h e = e ∙ sym (ap (λ (t : Bool). narrowed p (pick t w o) k) h)
-
-  pub either-without : b ≡ false → r ≡ narrowed p o k → r ≡ narrowed p (pick b w o) k
-  either-without h e = e ∙ sym (ap (λ (t : Bool). narrowed p (pick t w o) k) h)
-
-pub ruleset either-way = (either-with, either-without)
-
 -- ---- `show_composition`
-module _ (n : ℕ) (b : Bool) (e : b ≡ between 1 8 n) (i : not b ≡ false) where
-  pub recipe-low : 1 ≤ n
-  recipe-low = between-low 1 8 n (sym e ∙ not-false b i)
+pub recipe-low : (n : ℕ) (b : Bool) → b ≡ within (fieldRange recipe) n → not b ≡ false → 2 ≤ 3 * n
+recipe-low n b e i = omega (arith, between-low (fieldRange recipe .low) (fieldRange recipe .high) n (sym e ∙ not-false b i))
 
-  pub recipe-high : n ≤ 8
-  recipe-high = between-high 1 8 n (sym e ∙ not-false b i)
-
-module _ (d f : Digits) (k r : Knowledge) where
-  pub recipe-nothing : d ≡ digitsRead.Nothing → r ≡ dead k → r ≡ compositionShown d f k
-  recipe-nothing e h = h ∙ sym (ap (λ (x : Digits). compositionShown x f k) e)
-
-  module _ (n : ℕ) (e : d ≡ digitsRead.Number n) (b : Bool) (t : b ≡ between 1 8 n) where
-    pub recipe-outside : not b ≡ true → r ≡ dead k → r ≡ compositionShown d f k
-    recipe-outside o h =
-        let u : dead k ≡ compositionShown (digitsRead.Number n) f k = simp (← t, not-true b o) in
-        h ∙ (u ∙ sym (ap (λ (x : Digits). compositionShown x f k) e))
-
-    pub recipe-factor : (m : ℕ) (g : Range) (a : Knowledge) → not b ≡ false → m ≡ maskFrom (λ i. between 1 8 i && eqb i n) 9 0 → a ≡ narrowed 8 m k
-        → g ≡ rangeAt (3 * (n - 1) + 1) → r ≡ toldBy (12 + 2 * (3 * (n - 1) + 1)) g f a → r ≡ compositionShown d f k
-    recipe-factor m g a i z y x h =
-        let p : ℕ = 12 + 2 * factorPlace n in
-        let c : Knowledge = narrowedBy 8 (range 1 8) (digitsRead.Number n) k in
-        let u : toldBy p (rangeAt (factorPlace n)) f c ≡ compositionShown (digitsRead.Number n) f k = simp (← t, not-false b i) in
-        h ∙ (ap (λ (q : Range). toldBy p q f a) x
-        ∙ (ap (toldBy p (rangeAt (factorPlace n)) f) (y ∙ ap (λ (q : ℕ). narrowed 8 q k) z) ∙ (u ∙ sym (ap (λ (x : Digits). compositionShown x f k) e))))
-
-pub ruleset recipe-read = (recipe-nothing, recipe-outside, recipe-factor)
-
--- ---- `show_both`
 module _ (s : List ℕ) (k r : Knowledge) where
-  pub both-short : length s < 5 → r ≡ dead k → r ≡ shown request.Composition s k
+  pub recipe-short : length s < 5 → r ≡ dead k → r ≡ shown composition s k
   unfolding shown
-  both-short l h =
+  recipe-short l h =
       let m : length (take 5 s) < 5 = simp length-take (omega arith) in
-      h ∙ ap (λ (d : Digits). compositionShown d (numberBehind (0x20 ∷ []) 8 (drop 5 s)) k)
-      (behind-length (text "RC ") (take 5 s) 2 (λ e. omega arith))
+      h ∙ ap (λ (d : Digits). compositionShown d (numberBehind (text " ") 8 (drop 5 s)) k) (behind-length (text "RC ") (take 5 s) 2 (λ e. omega arith))
 
-  pub both-read : (d f : Digits) → d ≡ numberBehind (0x52 ∷ 0x43 ∷ 0x20 ∷ []) 2 (take 5 s)
-      → f ≡ numberBehind (0x20 ∷ []) 8 (take (length s - 5) (drop 5 s)) → r ≡ compositionShown d f k → r ≡ shown request.Composition s k
-  unfolding shown
-  both-read d f e z h =
-      let t : take (length s - 5) (drop 5 s) ≡ drop 5 s = take-all (length s - 5) (drop 5 s) (omega (arith, length-drop 5 s)) in
-      h ∙ (ap (λ (x : Digits). compositionShown x f k) e
-      ∙ ap (λ (x : Digits). compositionShown (numberBehind (text "RC ") 2 (take 5 s)) x k) (z ∙ ap (numberBehind (0x20 ∷ []) 8) t))
+  module _ (d : Digits) (z : d ≡ numberBehind (text "RC ") 2 (take 5 s)) where
+    as-read : (x : Digits) → d ≡ x → compositionShown x (numberBehind (text " ") 8 (drop 5 s)) k ≡ shown composition s k
+    unfolding shown
+    as-read x e = ap (λ (y : Digits). compositionShown y (numberBehind (text " ") 8 (drop 5 s)) k) (sym e ∙ z)
 
-pub ruleset both-known = (both-short, both-read)
+    pub recipe-nothing : d ≡ digitsRead.Nothing → r ≡ dead k → r ≡ shown composition s k
+    recipe-nothing e h = h ∙ as-read digitsRead.Nothing e
+
+    module _ (n : ℕ) (e : d ≡ digitsRead.Number n) (b : Bool) (t : b ≡ within (fieldRange recipe) n) where
+      pub recipe-outside : not b ≡ true → r ≡ dead k → r ≡ shown composition s k
+      recipe-outside o h =
+          let u : dead k ≡ compositionShown (digitsRead.Number n) (numberBehind (text " ") 8 (drop 5 s)) k = simp (← t, not-true b o) in
+          h ∙ (u ∙ as-read (digitsRead.Number n) e)
+
+      pub recipe-factor : (m : ℕ) (g : Range) (a : Knowledge) → not b ≡ false → m ≡ alone recipe n → a ≡ restricted (position recipe) m k
+          → g ≡ rangeAt (3 * n - 2) → r ≡ toldBy (position (value (3 * n - 2))) g (numberBehind (text " ") 8 (take (length s - 5) (drop 5 s))) a
+          → r ≡ shown composition s k
+      recipe-factor m g a i z y x h =
+          let p : ℕ = position (value (factorPlace n)) in
+          let j : 3 * n - 2 ≡ factorPlace n = omega (arith, recipe-low n b t i) in
+          let f : Digits = numberBehind (text " ") 8 (drop 5 s) in
+          let c : Knowledge = numberShown recipe (digitsRead.Number n) k in
+          let v : take (length s - 5) (drop 5 s) ≡ drop 5 s = take-all (length s - 5) (drop 5 s) (omega (arith, length-drop 5 s)) in
+          let u : toldBy p (rangeAt (factorPlace n)) f c ≡ compositionShown (digitsRead.Number n) f k = simp (← t, not-false b i) in
+          h ∙ (ap (λ (q : ℕ). toldBy (position (value q)) g (numberBehind (text " ") 8 (take (length s - 5) (drop 5 s))) a) j
+          ∙ (ap (λ (l : List ℕ). toldBy p g (numberBehind (text " ") 8 l) a) v ∙ (ap (λ (q : Range). toldBy p q f a) (x ∙ ap rangeAt j)
+          ∙ (ap (toldBy p (rangeAt (factorPlace n)) f) (y ∙ ap (λ (q : ℕ). restricted (position recipe) q k) z) ∙ (u ∙ as-read (digitsRead.Number n) e)))))
+
+pub ruleset recipe-read = (recipe-short, recipe-nothing, recipe-outside, recipe-factor)
 
 -- ---- `show`
-module _ (s : List ℕ) (k r : Knowledge) (q : Request) where
-  pub shown-as : (t : Request) → q ≡ t → r ≡ shown t s k → r ≡ shown q s k
-  shown-as t e h = h ∙ sym (ap (λ (x : Request). shown x s k) e)
+module _ (s : List ℕ) (k r : Knowledge) (q : Reading) where
+  pub shown-as : (t : Reading) → q ≡ t → r ≡ shown (replyOf (readingAs t)) s k → r ≡ shown (replyOf (readingAs q)) s k
+  shown-as t e h = h ∙ sym (ap (λ (x : Reading). shown (replyOf (readingAs x)) s k) e)
 
-  module _ (d : Digits) where
-    pub number-shown : q ≡ request.Number → d ≡ numberBehind (0x54 ∷ 0x4e ∷ 0x20 ∷ []) 4 s → r ≡ toldBy 11 (range 1 9999) d k → r ≡ shown q s k
-    unfolding shown
-    number-shown e z h = shown-as request.Number e (h ∙ ap (λ (x : Digits). toldBy 11 (range 1 9999) x k) z)
+  module _ (w : List ℕ) (i o : ℕ) (y : o ≡ offsetOf i) (full : length (k .codes) ≡ position (value parameterCount)) where
+    pub value-shown : (g : Range) → q ≡ reading.Value i → w ≡ parameterLabel (text "PV ") i → g ≡ rangeAt i → r ≡ toldBy (position (value 0) + o) g (numberBehind w 8 s) k
+        → r ≡ shown (replyOf (readingAs q)) s k
+    unfolding shown rowOf
+    value-shown g e v u h =
+        shown-as (reading.Value i) e
+        (h ∙ (ap (λ (n : ℕ). toldBy (position (value 0) + n) g (numberBehind w 8 s) k) y ∙ (tell-by-placed k full g (numberBehind w 8 s) (position (value 0)) i (omega arith)
+        ∙ (ap (λ (n : Range). toldBy (position (value i)) n (numberBehind w 8 s) k) u ∙ ap (λ (l : List ℕ). toldBy (position (value i)) (rangeAt i) (numberBehind l 8 s) k) v))))
 
-    pub recipe-shown : q ≡ request.Recipe → d ≡ numberBehind (0x52 ∷ 0x52 ∷ 0x20 ∷ []) 2 s → r ≡ narrowedBy 8 (range 1 8) d k → r ≡ shown q s k
-    unfolding shown
-    recipe-shown e z h = shown-as request.Recipe e (h ∙ ap (λ (x : Digits). narrowedBy 8 (range 1 8) x k) z)
+    pub level-shown : q ≡ reading.Level i → w ≡ parameterLabel (text "XV ") i → r ≡ restrictedBy (position (level 0) + o) (fieldRange (level i)) (numberBehind w 1 s) k
+        → r ≡ shown (replyOf (readingAs q)) s k
+    unfolding shown rowOf
+    level-shown e v h =
+        shown-as (reading.Level i) e
+        (h ∙ (ap (λ (n : ℕ). restrictedBy (position (level 0) + n) (fieldRange (level i)) (numberBehind w 1 s) k) y ∙ (restrict-by-placed k full (fieldRange (level i)) (numberBehind w 1 s) (position (level 0)) i (omega arith)
+        ∙ ap (λ (l : List ℕ). restrictedBy (position (level i)) (fieldRange (level i)) (numberBehind l 1 s) k) v)))
 
-    pub raw-shown : q ≡ request.Raw → d ≡ numberBehind (0x52 ∷ 0x54 ∷ 0x20 ∷ 0x52 ∷ 0x20 ∷ []) 8 s → r ≡ toldBy 10 (range 0 99999999) d k → r ≡ shown q s k
-    unfolding shown
-    raw-shown e z h = shown-as request.Raw e (h ∙ ap (λ (x : Digits). toldBy 10 (range 0 99999999) x k) z)
-
-    module _ (p i : ℕ) (y : i ≡ 2 * placeFor p) where
-      pub value-shown : (j : ℕ) (g : Range) → q ≡ request.Value p → d ≡ numberBehind (parameterLabel (0x50 ∷ 0x56 ∷ 0x20 ∷ []) p) 8 s → j ≡ placeFor p
-          → g ≡ rangeAt j → r ≡ toldBy (12 + i) g d k → r ≡ shown q s k
-      unfolding shown
-      value-shown j g e z t u h =
-          shown-as (request.Value p) e
-          (h ∙ (ap (λ (n : ℕ). toldBy (12 + n) g d k) y ∙ (ap (λ (n : Range). toldBy (12 + 2 * placeFor p) n d k) (u ∙ ap rangeAt t)
-          ∙ ap (λ (n : Digits). toldBy (12 + 2 * placeFor p) (rangeAt (placeFor p)) n k) z)))
-
-      pub level-shown : q ≡ request.Level p → d ≡ numberBehind (parameterLabel (0x58 ∷ 0x56 ∷ 0x20 ∷ []) p) 1 s → r ≡ narrowedBy (13 + i) (range 0 3) d k
-          → r ≡ shown q s k
-      unfolding shown
-      level-shown e z h =
-          shown-as (request.Level p) e
-          (h ∙ (ap (λ (n : ℕ). narrowedBy (13 + n) (range 0 3) d k) y ∙ ap (λ (n : Digits). narrowedBy (13 + 2 * placeFor p) (range 0 3) n k) z))
-
-pub ruleset replies = (shown-as, number-shown, recipe-shown, raw-shown, value-shown, level-shown)
+pub ruleset replies = (shown-as, value-shown, level-shown)

@@ -1,8 +1,6 @@
 // What the reply to an accepted request shows of the record.
 use base::is_between;
-use command::Digits;
-use command::Request;
-use command::is_word;
+use command::Reading;
 use knowledge::ALL_PHASES;
 use knowledge::CHANGED;
 use knowledge::DONE;
@@ -23,24 +21,45 @@ use knowledge::RUNNING;
 use knowledge::SET;
 use knowledge::STOPPED;
 use knowledge::VALUES;
+use state::LEVEL_RANGE;
+use state::NUMBER_RANGE;
+use state::PARAMETERS;
+use state::RAW_RANGE;
+use state::RECIPE_RANGE;
 use state::Range;
+use text::Digits;
+use text::is_word;
+use text::read_number;
+use text::word_at;
 ghost use mathlib.Core.Path.{_≡_};
 ghost use mathlib.Core.Bool.{_&&_};
+ghost use mathlib.Core.List.{[], _∷_};
 ghost use Prim.Native.Nat.{_*_, _≤_};
 ghost use lib.Dec.{eqb};
-ghost use lib.ListN.{length, take, drop};
+ghost use lib.ListN.{length, drop};
+ghost use Rattle.base.specs.Text.{text};
 ghost use Rattle.base.specs.Test.{pick, between};
 ghost use Rattle.state.specs.Parameter.{parameterCount};
-ghost use Rattle.command.specs.Word.{digits, equal};
-ghost use Rattle.command.specs.Request.{placeFor};
+ghost use Rattle.command.specs.Status.{first, second, fourth, characters, statusCodes};
+ghost use Rattle.command.specs.Commands.{parameterLabel, acknowledged, composition};
+ghost use Rattle.command.specs.Request.{readingAs, replyOf};
 ghost use Rattle.knowledge.specs.Sets.{maskOf};
-ghost use Rattle.knowledge.specs.Knowledge.{narrowed};
-ghost use Rattle.showing.specs.Heard.{numberBehind, refusalIn, parameterLabel, lit, statusFormed};
-ghost use Rattle.showing.specs.Shown.{toldBy, narrowedBy, compositionShown, allHold, firstTests, secondTests, fourthTests, statusShown, codes, codeShown, codesShown, listShown, okShown, shown};
+ghost use Rattle.knowledge.specs.Knowledge.{restricted};
+ghost use Rattle.showing.specs.Heard.{numberBehind, refusalIn, lit, charactersFormed};
+ghost use Rattle.showing.specs.Shown.{offsetOf, toldBy, restrictedBy, bitsShown, statusShown, wordShown, leftOf, codesShown, listShown, shown};
+
+// Sets of phases, and what each leaves of all.
+const NOT_RUNNING: u32 = ALL_PHASES - RUNNING;
+
+const NOT_DONE: u32 = ALL_PHASES - DONE;
 
 const RUNNING_OR_STOPPED: u32 = RUNNING + STOPPED;
 
+const NEITHER: u32 = ALL_PHASES - RUNNING_OR_STOPPED;
+
 const BEGUN: u32 = SET + RUNNING + STOPPED;
+
+const NOT_BEGUN: u32 = ALL_PHASES - BEGUN;
 
 // The set of n alone, if it is one of low to high, for numbers up to the last recipe.
 pub fn alone(low: u32, high: u32, n: u32) -> u32
@@ -49,37 +68,20 @@ pub fn alone(low: u32, high: u32, n: u32) -> u32
     if !is_between(low, high, n) {
         return 0;
     }
-    match n {
-        0 => 0x1,
-        1 => 0x2,
-        2 => 0x4,
-        3 => 0x8,
-        4 => 0x10,
-        5 => 0x20,
-        6 => 0x40,
-        7 => 0x80,
-        8 => 0x100,
-        _ => 0,
+    if LAST_RECIPE < n {
+        return 0;
     }
+    1 << n
 }
 
-// Where a parameter's value stands, behind that of the first; its level stands likewise.
-pub fn offset(code: u16) -> usize
-    ensures { λ i. ⌜ (i ≡ 2 * placeFor code) × (placeFor code ≤ parameterCount) ⌝ }
+// How far a parameter's value stands behind that of the first, and its level likewise; all places beyond the last are one.
+pub fn offset(place: usize) -> usize
+    ensures { λ i. ⌜ (i ≡ offsetOf place) × (i ≤ 2 * parameterCount) ⌝ }
 {
-    2 * command::place(code)
-}
-
-// The word stands at a place.
-fn stands(s: &[u8], at: usize, word: &[u8]) -> bool
-    requires { ⌜ (at ≤ length (now s)) × (length (now word) ≤ 8) ⌝ }
-    ensures { λ b. ⌜ b ≡ equal (take (length (now (word .entry))) (drop at (now (s .entry)))) (now (word .entry)) ⌝ }
-{
-    if s.len() - at < word.len() {
-        return false;
+    if place < PARAMETERS {
+        return 2 * place;
     }
-    let end = at + word.len();
-    is_word(&s[at..end], word)
+    2 * PARAMETERS
 }
 
 // A number of so many digits behind a word, and nothing else.
@@ -91,10 +93,10 @@ fn number_behind(s: &[u8], word: &[u8], width: usize) -> Digits
     if s.len() != n + width {
         return Digits::Nothing;
     }
-    if !is_word(&s[0..n], word) {
+    if !word_at(s, 0, word) {
         return Digits::Nothing;
     }
-    command::number(&s[n..])
+    read_number(&s[n..])
 }
 
 // The number of a refusal.
@@ -104,151 +106,141 @@ pub fn refusal_in(s: &[u8]) -> Digits
     number_behind(s, b"NO", 2)
 }
 
-// A field of many numbers holds what is shown.
-fn show_number(k: Knowledge, at: usize, range: Range, shown: Digits) -> Knowledge
-    ensures { λ r. ⌜ r ≡ toldBy at range shown k ⌝ }
+// A field of many numbers, of this range, holds what is shown behind a word.
+fn show_number(
+    k: Knowledge,
+    at: usize,
+    range: Range,
+    s: &[u8],
+    word: &[u8],
+    width: usize,
+) -> Knowledge
+    requires { ⌜ (length (now word) ≤ 8) × (width ≤ 8) ⌝ }
+    ensures { λ r. ⌜ r ≡ toldBy at range (numberBehind (now (word .entry)) width (now (s .entry))) k ⌝ }
 {
-    let Digits::Number(n) = shown else {
+    let Digits::Number(n) = number_behind(s, word, width) else {
         return k.refuted();
     };
     k.tell(at, range, n)
 }
 
-// A field of few numbers, of this range, holds what is shown.
-fn show_small(k: Knowledge, at: usize, range: Range, shown: Digits) -> Knowledge
-    ensures { λ r. ⌜ r ≡ narrowedBy at range shown k ⌝ }
+// A field of few numbers, of this range, holds what is shown behind a word.
+fn show_small(
+    k: Knowledge,
+    at: usize,
+    range: Range,
+    s: &[u8],
+    word: &[u8],
+    width: usize,
+) -> Knowledge
+    requires { ⌜ (length (now word) ≤ 8) × (width ≤ 8) ⌝ }
+    ensures { λ r. ⌜ r ≡ restrictedBy at range (numberBehind (now (word .entry)) width (now (s .entry))) k ⌝ }
 {
-    let Digits::Number(n) = shown else {
+    let Digits::Number(n) = number_behind(s, word, width) else {
         return k.refuted();
     };
-    k.narrow(at, alone(range.low, range.high, n))
+    k.restrict(at, alone(range.low, range.high, n))
 }
 
 // RC: the recipe, and that recipe's factor.
-fn show_composition(k: Knowledge, recipe: Digits, factor: Digits) -> Knowledge
-    ensures { λ r. ⌜ r ≡ compositionShown recipe factor k ⌝ }
+fn show_composition(k: Knowledge, s: &[u8]) -> Knowledge
+    ensures { λ r. ⌜ r ≡ shown composition (now (s .entry)) k ⌝ }
 {
-    let Digits::Number(n) = recipe else {
-        return k.refuted();
-    };
-    if !is_between(1, LAST_RECIPE, n) {
+    if s.len() < 5 {
         return k.refuted();
     }
-    let place = (3 * (n - 1) + 1) as usize;
+    let Digits::Number(n) = number_behind(&s[0..5], b"RC ", 2) else {
+        return k.refuted();
+    };
+    if !is_between(RECIPE_RANGE.low, RECIPE_RANGE.high, n) {
+        return k.refuted();
+    }
+    let place = 3 * (n as usize) - 2;
     show_number(
-        k.narrow(RECIPE, alone(1, LAST_RECIPE, n)),
+        k.restrict(RECIPE, alone(RECIPE_RANGE.low, RECIPE_RANGE.high, n)),
         VALUES + 2 * place,
         state::range_at(place),
-        factor,
+        &s[5..],
+        b" ",
+        8,
     )
 }
 
-// The three digits of a parameter's code.
-fn code_digits(code: u16) -> [u8; 3]
-    ensures { λ w. ⌜ w ≡ digits 3 code ⌝ }
+// "PV ppp " or "XV ppp ".
+fn parameter_label(letter: u8, place: usize) -> [u8; 7]
+    ensures { λ w. ⌜ w ≡ parameterLabel (letter ∷ text "V ") place ⌝ }
 {
-    let n = code as u32;
+    let n = state::code_at(place) as u32;
     [
+        letter,
+        b'V',
+        b' ',
         (0x30 + n / 100 % 10) as u8,
         (0x30 + n / 10 % 10) as u8,
         (0x30 + n % 10) as u8,
+        b' ',
     ]
 }
 
-// A number of so many digits behind a word, a parameter's code and a space.
-fn parameter_number(s: &[u8], word: &[u8], code: u16, width: usize) -> Digits
-    requires { ⌜ (length (now word) ≤ 8) × (width ≤ 8) ⌝ }
-    ensures { λ d. ⌜ d ≡ numberBehind (parameterLabel (now (word .entry)) code) width (now (s .entry)) ⌝ }
+// No bit is set in the characters of EQ but those that tell something.
+fn characters_formed(a: u8, b: u8, c: u8, d: u8, e: u8, f: u8) -> bool
+    ensures { λ r. ⌜ r ≡ charactersFormed (a ∷ b ∷ c ∷ d ∷ e ∷ f ∷ []) characters ⌝ }
 {
-    if !stands(s, 0, word) {
-        return Digits::Nothing;
-    }
-    let n = word.len();
-    if !stands(s, n, &code_digits(code)) {
-        return Digits::Nothing;
-    }
-    let behind = n + 3;
-    number_behind(&s[behind..], b" ", width)
+    let others = [a & 0xf0, b & 0xf1, c, d & 0xf6, e, f];
+    is_word(&others, b"000000")
 }
 
-// The bit of this weight is set.
-fn is_lit(weight: u8, x: u8) -> bool
-    requires { ⌜ 1 ≤ weight ⌝ }
-    ensures { λ b. ⌜ b ≡ lit weight x ⌝ }
+// A field of few numbers is in one set or the other, as the bit of this weight is set or not.
+fn show_bit(k: Knowledge, at: usize, x: u8, weight: u8, with: u32, without: u32) -> Knowledge
+    ensures { λ r. ⌜ r ≡ restricted at (pick (lit weight x) with without) k ⌝ }
 {
-    x / weight % 2 == 1
-}
-
-fn status_formed(s: &[u8]) -> bool
-    ensures { λ b. ⌜ b ≡ statusFormed (now (s .entry)) ⌝ }
-{
-    if s.len() != 6 {
-        return false;
+    if x & weight == weight {
+        return k.restrict(at, with);
     }
-    if !base::all_between(0x30, 0x3f, s) {
-        return false;
-    }
-    if s[1] % 2 != 0 {
-        return false;
-    }
-    if s[3] / 2 % 4 != 0 {
-        return false;
-    }
-    let others = [s[2], s[4], s[5]];
-    is_word(&others, b"000")
-}
-
-// A field of few numbers is in one set or the other, as shown.
-fn show_either(k: Knowledge, at: usize, shown: bool, with: u32, without: u32) -> Knowledge
-    ensures { λ r. ⌜ r ≡ narrowed at (pick shown with without) k ⌝ }
-{
-    if shown {
-        return k.narrow(at, with);
-    }
-    k.narrow(at, without)
+    k.restrict(at, without)
 }
 
 // A1 of EQ.
 fn show_first(k: Knowledge, x: u8) -> Knowledge
-    ensures { λ r. ⌜ r ≡ allHold (firstTests x) k ⌝ }
+    ensures { λ r. ⌜ r ≡ bitsShown x first k ⌝ }
 {
-    let keypad = show_either(k, KEYPAD, is_lit(8, x), ON, OFF);
-    let running = show_either(keypad, PHASE, is_lit(4, x), RUNNING, ALL_PHASES - RUNNING);
-    let flow = show_either(running, FLOW, is_lit(2, x), ON, OFF);
-    show_either(flow, PHASE, is_lit(1, x), BEGUN, ALL_PHASES - BEGUN)
+    let keypad = show_bit(k, KEYPAD, x, 8, ON, OFF);
+    let running = show_bit(keypad, PHASE, x, 4, RUNNING, NOT_RUNNING);
+    let flow = show_bit(running, FLOW, x, 2, ON, OFF);
+    show_bit(flow, PHASE, x, 1, BEGUN, NOT_BEGUN)
 }
 
 // A2 of EQ.
 fn show_second(k: Knowledge, x: u8) -> Knowledge
-    ensures { λ r. ⌜ r ≡ allHold (secondTests x) k ⌝ }
+    ensures { λ r. ⌜ r ≡ bitsShown x second k ⌝ }
 {
-    let begun = show_either(
-        k,
-        PHASE,
-        is_lit(8, x),
-        RUNNING_OR_STOPPED,
-        ALL_PHASES - RUNNING_OR_STOPPED,
-    );
-    let done = show_either(begun, PHASE, is_lit(4, x), DONE, ALL_PHASES - DONE);
-    show_either(done, RESET, is_lit(2, x), ON, OFF)
+    let begun = show_bit(k, PHASE, x, 8, RUNNING_OR_STOPPED, NEITHER);
+    let done = show_bit(begun, PHASE, x, 4, DONE, NOT_DONE);
+    show_bit(done, RESET, x, 2, ON, OFF)
 }
 
 // A4 of EQ.
 fn show_fourth(k: Knowledge, x: u8) -> Knowledge
-    ensures { λ r. ⌜ r ≡ allHold (fourthTests x) k ⌝ }
+    ensures { λ r. ⌜ r ≡ bitsShown x fourth k ⌝ }
 {
-    let changed = show_either(k, CHANGED, is_lit(8, x), ON, OFF);
-    show_either(changed, POWERFAIL, is_lit(1, x), ON, OFF)
+    let changed = show_bit(k, CHANGED, x, 8, ON, OFF);
+    show_bit(changed, POWERFAIL, x, 1, ON, OFF)
 }
 
 // EQ
 fn show_status(k: Knowledge, s: &[u8]) -> Knowledge
     ensures { λ r. ⌜ r ≡ statusShown (now (s .entry)) k ⌝ }
 {
-    if !status_formed(s) {
+    if s.len() != 6 {
         return k.refuted();
     }
-    show_fourth(show_second(show_first(k, s[0]), s[1]), s[3])
+    let a = s[0];
+    let b = s[1];
+    let d = s[3];
+    if !characters_formed(a, b, s[2], d, s[4], s[5]) {
+        return k.refuted();
+    }
+    show_fourth(show_second(show_first(k, a), b), d)
 }
 
 // How far the codes of RS are read, and what is known then.
@@ -260,18 +252,18 @@ struct Walk {
 // One code of RS: it stands next and is on, or it is off.
 fn show_code(walk: Walk, s: &[u8], word: &[u8], field: usize, with: u32, without: u32) -> Walk
     requires { ⌜ (walk .at ≤ length (now s)) × (length (now word) ≤ 8) ⌝ }
-    ensures { λ w. ⌜ (w ≡ codeShown (now (s .entry)) (now (word .entry)) field with without walk) × (w .at ≤ length (now (s .entry))) ⌝ }
+    ensures { λ w. ⌜ (leftOf (now (s .entry)) w ≡ wordShown (now (word .entry)) field with without (leftOf (now (s .entry)) walk)) × (w .at ≤ length (now (s .entry))) ⌝ }
 {
     let at = walk.at;
     let k = walk.known;
-    if stands(s, at, word) {
-        let known = k.narrow(field, with);
+    if word_at(s, at, word) {
+        let known = k.restrict(field, with);
         return Walk {
             at: at + word.len(),
             known: known,
         };
     }
-    let known = k.narrow(field, without);
+    let known = k.restrict(field, without);
     Walk {
         at: at,
         known: known,
@@ -281,7 +273,7 @@ fn show_code(walk: Walk, s: &[u8], word: &[u8], field: usize, with: u32, without
 // The codes of flags.
 fn show_flag_codes(walk: Walk, s: &[u8]) -> Walk
     requires { ⌜ walk .at ≤ length (now s) ⌝ }
-    ensures { λ w. ⌜ (w ≡ codesShown (now (s .entry)) (take 5 codes) walk) × (w .at ≤ length (now (s .entry))) ⌝ }
+    ensures { λ w. ⌜ (codesShown (drop 5 statusCodes) (leftOf (now (s .entry)) w) ≡ codesShown statusCodes (leftOf (now (s .entry)) walk)) × (w .at ≤ length (now (s .entry))) ⌝ }
 {
     let flow = show_code(walk, s, b"FL ", FLOW, ON, OFF);
     let reset = show_code(flow, s, b"BD ", RESET, ON, OFF);
@@ -293,25 +285,18 @@ fn show_flag_codes(walk: Walk, s: &[u8]) -> Walk
 // The codes of phases.
 fn show_phase_codes(walk: Walk, s: &[u8]) -> Walk
     requires { ⌜ walk .at ≤ length (now s) ⌝ }
-    ensures { λ w. ⌜ (w ≡ codesShown (now (s .entry)) (drop 5 codes) walk) × (w .at ≤ length (now (s .entry))) ⌝ }
+    ensures { λ w. ⌜ (codesShown [] (leftOf (now (s .entry)) w) ≡ codesShown (drop 5 statusCodes) (leftOf (now (s .entry)) walk)) × (w .at ≤ length (now (s .entry))) ⌝ }
 {
-    let done = show_code(walk, s, b"TD ", PHASE, DONE, ALL_PHASES - DONE);
-    let begun = show_code(
-        done,
-        s,
-        b"TP ",
-        PHASE,
-        RUNNING_OR_STOPPED,
-        ALL_PHASES - RUNNING_OR_STOPPED,
-    );
-    show_code(begun, s, b"RL ", PHASE, RUNNING, ALL_PHASES - RUNNING)
+    let done = show_code(walk, s, b"TD ", PHASE, DONE, NOT_DONE);
+    let begun = show_code(done, s, b"TP ", PHASE, RUNNING_OR_STOPPED, NEITHER);
+    show_code(begun, s, b"RL ", PHASE, RUNNING, NOT_RUNNING)
 }
 
 // RS
 fn show_codes(k: Knowledge, s: &[u8]) -> Knowledge
     ensures { λ r. ⌜ r ≡ listShown (now (s .entry)) k ⌝ }
 {
-    if !stands(s, 0, b"RS ") {
+    if !word_at(s, 0, b"RS ") {
         return k.refuted();
     }
     let start = Walk { at: 3, known: k };
@@ -323,8 +308,9 @@ fn show_codes(k: Knowledge, s: &[u8]) -> Knowledge
     known
 }
 
-fn show_ok(k: Knowledge, s: &[u8]) -> Knowledge
-    ensures { λ r. ⌜ r ≡ okShown (now (s .entry)) k ⌝ }
+// OK
+pub fn show_ok(k: Knowledge, s: &[u8]) -> Knowledge
+    ensures { λ r. ⌜ r ≡ shown acknowledged (now (s .entry)) k ⌝ }
 {
     if is_word(s, b"OK") {
         return k;
@@ -332,71 +318,31 @@ fn show_ok(k: Knowledge, s: &[u8]) -> Knowledge
     k.refuted()
 }
 
-// RC
-fn show_both(k: Knowledge, s: &[u8]) -> Knowledge
-    ensures { λ r. ⌜ r ≡ shown Request.Composition (now (s .entry)) k ⌝ }
+// What the reply to an accepted reading shows, behind the address digits.
+pub fn show(k: Knowledge, reading: Reading, s: &[u8]) -> Knowledge
+    ensures { λ r. ⌜ r ≡ shown (replyOf (readingAs reading)) (now (s .entry)) k ⌝ }
 {
-    if s.len() < 5 {
-        return k.refuted();
-    }
-    show_composition(
-        k,
-        number_behind(&s[0..5], b"RC ", 2),
-        number_behind(&s[5..], b" ", 8),
-    )
-}
-
-// What the reply to an accepted request shows, behind the address digits.
-pub fn show(k: Knowledge, request: Request, s: &[u8]) -> Knowledge
-    ensures { λ r. ⌜ r ≡ shown request (now (s .entry)) k ⌝ }
-{
-    match request {
-        Request::Unknown => k.refuted(),
-        Request::Malformed => k.refuted(),
-        Request::NotServed => k.refuted(),
-        Request::Status => show_status(k, s),
-        Request::Codes => show_codes(k, s),
-        Request::Number => {
-            let range = Range { low: 1, high: 9999 };
-            show_number(k, NUMBER, range, number_behind(s, b"TN ", 4))
-        }
-        Request::Recipe => {
-            let range = Range {
-                low: 1,
-                high: LAST_RECIPE,
-            };
-            show_small(k, RECIPE, range, number_behind(s, b"RR ", 2))
-        }
-        Request::Composition => show_both(k, s),
-        Request::Raw => {
-            let range = Range {
-                low: 0,
-                high: 99999999,
-            };
-            show_number(k, RAW, range, number_behind(s, b"RT R ", 8))
-        }
-        Request::Value(code) => {
-            let shown = parameter_number(s, b"PV ", code, 8);
+    match reading {
+        Reading::Status => show_status(k, s),
+        Reading::Codes => show_codes(k, s),
+        Reading::Number => show_number(k, NUMBER, NUMBER_RANGE, s, b"TN ", 4),
+        Reading::Recipe => show_small(k, RECIPE, RECIPE_RANGE, s, b"RR ", 2),
+        Reading::Composition => show_composition(k, s),
+        Reading::Raw => show_number(k, RAW, RAW_RANGE, s, b"RT R ", 8),
+        Reading::Value(place) => {
+            let label = parameter_label(b'P', place);
             show_number(
                 k,
-                VALUES + offset(code),
-                state::range_at(command::place(code)),
-                shown,
+                VALUES + offset(place),
+                state::range_at(place),
+                s,
+                &label,
+                8,
             )
         }
-        Request::Level(code) => {
-            let shown = parameter_number(s, b"XV ", code, 1);
-            let range = Range { low: 0, high: 3 };
-            show_small(k, LEVELS + offset(code), range, shown)
+        Reading::Level(place) => {
+            let label = parameter_label(b'X', place);
+            show_small(k, LEVELS + offset(place), LEVEL_RANGE, s, &label, 1)
         }
-        Request::SetValue(_, _) => show_ok(k, s),
-        Request::SetLevel(_, _) => show_ok(k, s),
-        Request::SelectRecipe(_) => show_ok(k, s),
-        Request::SetBatch(_) => show_ok(k, s),
-        Request::Start => show_ok(k, s),
-        Request::Stop => show_ok(k, s),
-        Request::End => show_ok(k, s),
-        Request::ClearReset => show_ok(k, s),
-        Request::ClearChanged => show_ok(k, s),
     }
 }

@@ -9,7 +9,7 @@ use Rattle.state.specs.declared.Phase.the-variants.{Idle, Running}
 use Rattle.state.specs.declared.Event.{Event}
 use Rattle.state.specs.declared.Event.the-variants.{Pulses, KeypadOn, PowerBack}
 use Rattle.state.specs.declared.Record.{Record}
-use Rattle.state.specs.Field.{phase, keypad, flow, reset, powerfail, preset, raw, number, put, phaseNumber, on, off}
+use Rattle.state.specs.Field.{phase, keypad, flow, reset, powerfail, preset, raw, number, put, fieldRange, phaseNumber, on, off}
 use Rattle.state.specs.Valid.{valid}
 use Rattle.state.specs.Event.{idle, set, running, stopped, done, pulses, powerBack, keypadOn, happened, after, nextNumber, batchSet}
 use Rattle.state.proofs.Validity.{valid-tell}
@@ -67,7 +67,7 @@ module _ (r : Record) (b : Bool) (v : b ≡ valid r) where
       power-stopped s t e = after-valid PowerBack s (e ∙ simp (at ∙ t))
 
 -- the raw total of a valid record leaves room for any count of pulses
-pub raw-limit : (r : Record) (b : Bool) → b ≡ valid r → not b ≡ false → r .raw ≤ 99999999
+pub raw-limit : (r : Record) (b : Bool) → b ≡ valid r → not b ≡ false → r .raw ≤ fieldRange raw .high
 raw-limit r b v n = valid-tell r (sym v ∙ not-false b n) .scalars .raw-high
 
 -- SB's record, with the number counted first and the phase set last

@@ -1,21 +1,21 @@
 -- Reading a field after writing one. Assumes nothing.
 use Prim.Native.Nat.{ℕ, zero, suc, _+_, _-_, _*_, _/_, _%_, _≤_, _<_}
 use mathlib.Core.Bool.{Bool, true, false, _&&_}
-use mathlib.Core.Path.{_≡_, refl, sym, ap, _∙_}
-use mathlib.Core.List.{List}
+use mathlib.Core.Path.{_≡_, refl, sym, ap, _∙_, subst}
+use mathlib.Core.List.{List, map}
 use native.Mathlib.Omega.{arith}
 use lib.Dec.{eqb, leb, ltb}
-use lib.ListN.{length, getD, set, length-set}
+use lib.ListN.{length, getD, set, length-set, List·getD-map, List·getD-eq-default}
 use lib.Seq.{getD-set-same, getD-set-other}
-use borrow.Author.Tests.{eq-eqb, ne-eqb, eqb-true, le-leb, leb-true, le-ltb}
+use borrow.Author.Tests.{eq-eqb, ne-eqb, eqb-true, le-leb, leb-true, le-ltb, ltb-true}
 use Rattle.state.specs.declared.Phase.{Phase}
 use Rattle.state.specs.declared.Phase.the-variants.{Idle, Set, Running, Stopped, Done}
 use Rattle.state.specs.declared.Record.{Record}
-use Rattle.base.specs.Test.{pick}
+use Rattle.base.specs.Test.{pick, between}
 use Rattle.state.specs.Parameter.{parameterCount}
-use Rattle.state.specs.Field.{Field, address, access, phase, keypad, flow, changed, reset, powerfail, recipe, preset, raw, number, value, level, get, put, putAt, position, fieldRange, fieldsFor, phaseNumber, phaseOf, flagNumber, flagOf}
+use Rattle.state.specs.Field.{Field, address, access, phase, keypad, flow, changed, reset, powerfail, recipe, preset, raw, number, value, level, get, put, putAt, is, position, fieldRange, scalarFields, scalarCount, phaseNumber, phaseOf, flagNumber, flagOf, off, on}
 use Rattle.state.specs.Valid.{within}
-use Rattle.base.proofs.Tests.{and-no, and-left, and-right, between-high, holds-below}
+use Rattle.base.proofs.Tests.{by-test, and-no, and-left, and-right, between-high, holds-below}
 
 -- a phase and a flag are known by their numbers
 pub phase-back : (p : Phase) → phaseOf (phaseNumber p) ≡ p
@@ -42,8 +42,8 @@ phase-number n h = eqb-true _ _ (holds-below (λ (m : ℕ). eqb (phaseNumber (ph
 -- ---- a field is known by its position
 decode : ℕ → Field
 decode n =
-    pick (ltb n 12) (getD (fieldsFor 0) n address)
-    (pick (eqb ((n - 12) % 2) 0) (value ((n - 12) / 2)) (level ((n - 12) / 2)))
+    pick (ltb n scalarCount) (getD scalarFields n address)
+    (pick (eqb ((n - scalarCount) % 2) 0) (value ((n - scalarCount) / 2)) (level ((n - scalarCount) / 2)))
 
 decode-position : (f : Field) → decode (position f) ≡ f
 unfolding decode
@@ -60,12 +60,40 @@ decode-position preset = refl
 decode-position raw = refl
 decode-position number = refl
 decode-position (value i) =
-    simp (le-ltb (12 + 2 * i) 12 (omega arith), eq-eqb ((12 + 2 * i - 12) % 2) 0 (omega arith)) (ap value (omega arith))
+    let p : ℕ = position (value i) in
+    simp (le-ltb p scalarCount (omega arith), eq-eqb ((p - scalarCount) % 2) 0 (omega arith)) (ap value (omega arith))
 decode-position (level i) =
-    simp (le-ltb (13 + 2 * i) 12 (omega arith), ne-eqb ((13 + 2 * i - 12) % 2) 0 (λ e. omega arith)) (ap level (omega arith))
+    let p : ℕ = position (level i) in
+    simp (le-ltb p scalarCount (omega arith), ne-eqb ((p - scalarCount) % 2) 0 (λ e. omega arith)) (ap level (omega arith))
+
+-- each but the parameters' fields stands at its position
+pub scalar-at : (n : ℕ) → n < scalarCount → position (getD scalarFields n address) ≡ n
+scalar-at n h = eqb-true _ _ (holds-below (λ (j : ℕ). eqb (position (getD scalarFields j address)) j) scalarCount refl n h)
 
 pub same-field : (f g : Field) → position f ≡ position g → f ≡ g
 same-field f g e = sym (decode-position f) ∙ (ap decode e ∙ decode-position g)
+
+-- what holds of all but the parameters' fields, of each value and of each level holds of each field: so no law below has a case per field
+pub by-fields : (P : Field → Type 0) → ((n : ℕ) → n < scalarCount → P (getD scalarFields n address)) → ((i : ℕ) → P (value i)) → ((i : ℕ) → P (level i))
+    → (f : Field) → P f
+unfolding decode
+by-fields P s v l f = subst P (decode-position f) (at (position f) (ltb (position f) scalarCount) refl)
+  where
+    pair : (n : ℕ) (b : Bool) → P (pick b (value n) (level n))
+    pair n true = v n
+    pair n false = l n
+
+    at : (n : ℕ) (b : Bool) → ltb n scalarCount ≡ b
+        → P (pick b (getD scalarFields n address) (pick (eqb ((n - scalarCount) % 2) 0) (value ((n - scalarCount) / 2)) (level ((n - scalarCount) / 2))))
+    at n true e = s n (ltb-true _ _ e)
+    at n false e = pair ((n - scalarCount) / 2) (eqb ((n - scalarCount) % 2) 0)
+
+-- an equation that all but the parameters' fields meet, as one of lists
+pub by-list : {A : Type 0} (g h : Field → A) → map g scalarFields ≡ map h scalarFields → (n : ℕ) → g (getD scalarFields n address) ≡ h (getD scalarFields n address)
+by-list {A} g h e n =
+    sym (List·getD-map g scalarFields n address)
+    ∙ (ap (λ (xs : List A). getD xs n (g address)) e
+    ∙ (ap (getD (map h scalarFields) n) (ap (λ (xs : List A). getD xs 0 (g address)) e) ∙ List·getD-map h scalarFields n address))
 
 -- ---- the parameters' lists
 module _ (first n : ℕ) (f : Field) (xs : List ℕ) where
@@ -116,88 +144,107 @@ withLists vs ls r =
     }
 
 -- ---- a parameter's field as a store to one of the two lists
-put-parameter : (f : Field) (n : ℕ) (r : Record) → 12 ≤ position f → withLists (putAt 12 f n (r .values)) (putAt 13 f n (r .levels)) r ≡ put f n r
+abbrev firstValue : ℕ
+firstValue = position (value 0)
+
+abbrev firstLevel : ℕ
+firstLevel = position (level 0)
+
+put-parameter : (f : Field) (n : ℕ) (r : Record) → scalarCount ≤ position f
+    → withLists (putAt firstValue f n (r .values)) (putAt firstLevel f n (r .levels)) r ≡ put f n r
 unfolding put
-put-parameter f n r h =
-    let not-at : (k : ℕ) → k < 12 → eqb (position f) k ≡ false = λ k l. ne-eqb (position f) k (λ e. omega arith) in
-    simp (
-      not-at 0 (omega arith),
-      not-at 1 (omega arith),
-      not-at 2 (omega arith),
-      not-at 3 (omega arith),
-      not-at 4 (omega arith),
-      not-at 5 (omega arith),
-      not-at 6 (omega arith),
-      not-at 7 (omega arith),
-      not-at 8 (omega arith),
-      not-at 9 (omega arith),
-      not-at 10 (omega arith),
-      not-at 11 (omega arith),
-    )
+put-parameter f n r h = simp not-at
+  where
+    not-at : (k : ℕ) → ltb k scalarCount ≡ true → eqb (position f) k ≡ false
+    not-at k l = let b : k < scalarCount = ltb-true _ _ l in ne-eqb (position f) k (λ e. omega arith)
 
 pub put-value : (i n : ℕ) (r : Record) → withLists (set (r .values) i n) (r .levels) r ≡ put (value i) n r
 put-value i n r =
-    ap (λ (vs : List ℕ). withLists vs (r .levels) r) (sym (put-at-own 12 n (value i) (r .values) i refl))
-    ∙ (ap (λ (ls : List ℕ). withLists (putAt 12 (value i) n (r .values)) ls r)
-    (sym (put-at-kept 13 n (value i) (r .levels) (λ a e. let l : 13 ≤ 12 + 2 * i = leb-true 13 (12 + 2 * i) a in omega arith)))
+    ap (λ (vs : List ℕ). withLists vs (r .levels) r) (sym (put-at-own firstValue n (value i) (r .values) i (omega arith)))
+    ∙ (ap (λ (ls : List ℕ). withLists (putAt firstValue (value i) n (r .values)) ls r)
+    (sym (put-at-kept firstLevel n (value i) (r .levels) (λ a e. let l : firstLevel ≤ position (value i) = leb-true _ _ a in omega arith)))
     ∙ put-parameter (value i) n r (omega arith))
 
 pub put-level : (i n : ℕ) (r : Record) → withLists (r .values) (set (r .levels) i n) r ≡ put (level i) n r
 put-level i n r =
-    ap (λ (ls : List ℕ). withLists (r .values) ls r) (sym (put-at-own 13 n (level i) (r .levels) i refl))
-    ∙ (ap (λ (vs : List ℕ). withLists vs (putAt 13 (level i) n (r .levels)) r)
-    (sym (put-at-kept 12 n (level i) (r .values) (λ a e. omega arith)))
+    ap (λ (ls : List ℕ). withLists (r .values) ls r) (sym (put-at-own firstLevel n (level i) (r .levels) i (omega arith)))
+    ∙ (ap (λ (vs : List ℕ). withLists vs (putAt firstLevel (level i) n (r .levels)) r)
+    (sym (put-at-kept firstValue n (level i) (r .values) (λ a e. omega arith)))
     ∙ put-parameter (level i) n r (omega arith))
 
--- ---- reading another field
+-- ---- reading after writing
+pick-phase : (b : Bool) (p q : Phase) → phaseNumber (pick b p q) ≡ pick b (phaseNumber p) (phaseNumber q)
+pick-phase true p q = refl
+pick-phase false p q = refl
+
+pick-flag : (b p q : Bool) → flagNumber (pick b p q) ≡ pick b (flagNumber p) (flagNumber q)
+pick-flag true p q = refl
+pick-flag false p q = refl
+
+scalars-put : (f : Field) (n : ℕ) (r : Record)
+    → map (λ (g : Field). get g (put f n r)) scalarFields ≡ map (λ (g : Field). pick (is f g) (get g (put g n r)) (get g r)) scalarFields
+unfolding put
+scalars-put f n r = simp (pick-phase, pick-flag)
+
+-- another field
 pub get-put-other : (f g : Field) (n : ℕ) (r : Record) → (position f ≡ position g → ⊥) → get g (put f n r) ≡ get g r
 unfolding put
-get-put-other f address n r h = simp (ne-eqb _ _ h)
-get-put-other f access n r h = simp (ne-eqb _ _ h)
-get-put-other f phase n r h = simp (ne-eqb _ _ h)
-get-put-other f keypad n r h = simp (ne-eqb _ _ h)
-get-put-other f flow n r h = simp (ne-eqb _ _ h)
-get-put-other f changed n r h = simp (ne-eqb _ _ h)
-get-put-other f reset n r h = simp (ne-eqb _ _ h)
-get-put-other f powerfail n r h = simp (ne-eqb _ _ h)
-get-put-other f recipe n r h = simp (ne-eqb _ _ h)
-get-put-other f preset n r h = simp (ne-eqb _ _ h)
-get-put-other f raw n r h = simp (ne-eqb _ _ h)
-get-put-other f number n r h = simp (ne-eqb _ _ h)
-get-put-other f (value j) n r h = put-at-other 12 n f (r .values) j h
-get-put-other f (level j) n r h = put-at-other 13 n f (r .levels) j h
+get-put-other f g n r =
+    by-fields (λ (h : Field). (position f ≡ position h → ⊥) → get h (put f n r) ≡ get h r)
+    (λ k l o. by-list (λ (h : Field). get h (put f n r)) (λ (h : Field). pick (is f h) (get h (put h n r)) (get h r)) (scalars-put f n r) k ∙ simp (ne-eqb _ _ o))
+    (λ j o. put-at-other firstValue n f (r .values) j (λ e. o (omega arith)))
+    (λ j o. put-at-other firstLevel n f (r .levels) j (λ e. o (omega arith)))
+    g
 
--- ---- reading the same field
+-- beyond its end the list of values or of levels gives 0
+pub beyond : (xs : List ℕ) (i : ℕ) → length xs ≡ parameterCount → parameterCount ≤ i → 0 ≡ getD xs i 0
+beyond xs i l h = sym (List·getD-eq-default xs 0 (omega arith))
+
+-- ---- the same field
 
 -- f is one of the record's fields: a parameter's place is below their number
 abbrev pub Held : Field → Type 0
 Held f = position f < position (value parameterCount)
 
+-- a number within the field's range is kept as it is
+pub pick-same : (b : Bool) (n : ℕ) → pick b n n ≡ n
+pick-same true n = refl
+pick-same false n = refl
+
+pub phase-settled : (n : ℕ) → pick (within (fieldRange phase) n) (phaseNumber (phaseOf n)) n ≡ n
+phase-settled n = by-test (within (fieldRange phase) n) (λ e. simp e (phase-number n (between-high _ _ n e))) (λ e. simp e)
+
+pub flag-settled : (n : ℕ) → pick (between off on n) (flagNumber (flagOf n)) n ≡ n
+flag-settled n = by-test (between off on n) (λ e. simp e (flag-number n (between-high _ _ n e))) (λ e. simp e)
+
+pub ruleset settling = (pick-same, phase-settled, flag-settled)
+
+pub settled : (g w : Field → ℕ) → map (λ (f : Field). pick (within (fieldRange f) (w f)) (g f) (w f)) scalarFields ≡ map w scalarFields
+    → (k : ℕ) → within (fieldRange (getD scalarFields k address)) (w (getD scalarFields k address)) ≡ true
+    → g (getD scalarFields k address) ≡ w (getD scalarFields k address)
+settled g w e k i =
+    let f : Field = getD scalarFields k address in
+    ap (λ (b : Bool). pick b (g f) (w f)) (sym i) ∙ by-list (λ (h : Field). pick (within (fieldRange h) (w h)) (g h) (w h)) w e k
+
+scalars-own : (n : ℕ) (r : Record) → map (λ (f : Field). pick (within (fieldRange f) n) (get f (put f n r)) n) scalarFields ≡ map (λ (f : Field). n) scalarFields
+unfolding put
+scalars-own n r = simp settling
+
 module _ (r : Record) (values-length : length (r .values) ≡ parameterCount) (levels-length : length (r .levels) ≡ parameterCount) where
   pub get-put-same : (f : Field) (n : ℕ) → Held f → within (fieldRange f) n ≡ true → get f (put f n r) ≡ n
   unfolding put
-  get-put-same address n l h = refl
-  get-put-same access n l h = refl
-  get-put-same phase n l h = phase-number n (between-high 0 4 n h)
-  get-put-same keypad n l h = flag-number n (between-high 0 1 n h)
-  get-put-same flow n l h = flag-number n (between-high 0 1 n h)
-  get-put-same changed n l h = flag-number n (between-high 0 1 n h)
-  get-put-same reset n l h = flag-number n (between-high 0 1 n h)
-  get-put-same powerfail n l h = flag-number n (between-high 0 1 n h)
-  get-put-same recipe n l h = refl
-  get-put-same preset n l h = refl
-  get-put-same raw n l h = refl
-  get-put-same number n l h = refl
-  get-put-same (value i) n l h =
-      ap (λ (xs : List ℕ). getD xs i 0) (put-at-own 12 n (value i) (r .values) i refl) ∙ getD-set-same (r .values) i n 0 (omega arith)
-  get-put-same (level i) n l h =
-      ap (λ (xs : List ℕ). getD xs i 0) (put-at-own 13 n (level i) (r .levels) i refl) ∙ getD-set-same (r .levels) i n 0 (omega arith)
+  get-put-same f n =
+      by-fields (λ (g : Field). Held g → within (fieldRange g) n ≡ true → get g (put g n r) ≡ n)
+      (λ k b l h. settled (λ (g : Field). get g (put g n r)) (λ (g : Field). n) (scalars-own n r) k h)
+      (λ i l h. ap (λ (xs : List ℕ). getD xs i 0) (put-at-own firstValue n (value i) (r .values) i (omega arith)) ∙ getD-set-same (r .values) i n 0 (omega arith))
+      (λ i l h. ap (λ (xs : List ℕ). getD xs i 0) (put-at-own firstLevel n (level i) (r .levels) i (omega arith)) ∙ getD-set-same (r .levels) i n 0 (omega arith))
+      f
 
--- ---- a write within the range keeps the record valid
+-- ---- the lists keep their lengths
 pub put-values-length : (f : Field) (n : ℕ) (r : Record) → length (put f n r .values) ≡ length (r .values)
 unfolding put
-put-values-length f n r = put-at-length 12 n f (r .values)
+put-values-length f n r = put-at-length firstValue n f (r .values)
 
 pub put-levels-length : (f : Field) (n : ℕ) (r : Record) → length (put f n r .levels) ≡ length (r .levels)
 unfolding put
-put-levels-length f n r = put-at-length 13 n f (r .levels)
+put-levels-length f n r = put-at-length firstLevel n f (r .levels)

@@ -13,42 +13,21 @@ use Rattle.state.specs.declared.Event.the-variants.{Pulses, Still, Keypa
 use Rattle.state.specs.declared.Record.{Record}
 use Rattle.base.specs.Test.{pick}
 use Rattle.state.specs.Parameter.{parameterCount}
-use Rattle.state.specs.Field.{Field, address, access, phase, keypad, flow, changed, reset, powerfail, recipe, preset, raw, number, value, level, get, put, position, fieldRange, fieldsFor, parameterFields, on, off}
+use Rattle.state.specs.Field.{Field, address, phase, keypad, flow, reset, powerfail, preset, raw, number, value, level, get, put, position, fieldRange, scalarFields, fieldsFor, parameterFields, on, off}
 use Rattle.state.specs.Valid.{within, allIn, fullLength, valid}
 use Rattle.state.specs.Event.{set, running, stopped, done, idle, inPhase, pulses, finished, powerBack, keypadOn, happened, after, nextNumber, batchSet, started, halted, ended}
 use Rattle.base.proofs.Tests.{and-yes, and-left, and-right, between-yes}
-use Rattle.state.proofs.Fields.{Held, same-field, get-put-same, get-put-other, put-values-length, put-levels-length}
-use Rattle.state.proofs.Validity.{all-at, pairIn, pairs-more, fields-split, valid-tell}
+use Rattle.state.proofs.Fields.{Held, by-fields, scalar-at, same-field, get-put-same, get-put-other, put-values-length, put-levels-length}
+use Rattle.state.proofs.Validity.{all-at, all-from, pairIn, pairs-more, fields-split, valid-tell}
 
 -- ---- valid exactly if each field is in its range
 module _ (r : Record) where
   pub field-in : valid r ≡ true → (f : Field) → Held f → within (fieldRange f) (get f r) ≡ true
-  unfolding valid
-  field-in v f l = go f l
-    where
-      all : allIn r (fieldsFor 0) && allIn r (parameterFields parameterCount) ≡ true
-      all = sym (fields-split r parameterCount) ∙ and-right (fullLength r) (allIn r (fieldsFor parameterCount)) v
-
-      at : (i : ℕ) → i < 12 → within (fieldRange (getD (fieldsFor 0) i address)) (get (getD (fieldsFor 0) i address) r) ≡ true
-      at i h = all-at r (fieldsFor 0) i (and-left (allIn r (fieldsFor 0)) (allIn r (parameterFields parameterCount)) all) h
-
-      go : (g : Field) → Held g → within (fieldRange g) (get g r) ≡ true
-      go address h = at 0 (omega arith)
-      go access h = at 1 (omega arith)
-      go phase h = at 2 (omega arith)
-      go keypad h = at 3 (omega arith)
-      go flow h = at 4 (omega arith)
-      go changed h = at 5 (omega arith)
-      go reset h = at 6 (omega arith)
-      go powerfail h = at 7 (omega arith)
-      go recipe h = at 8 (omega arith)
-      go preset h = at 9 (omega arith)
-      go raw h = at 10 (omega arith)
-      go number h = at 11 (omega arith)
-      go (value i) h =
-          and-left (within (fieldRange (value i)) (get (value i) r)) (within (fieldRange (level i)) (get (level i) r)) (valid-tell r v .pairs i (omega arith))
-      go (level i) h =
-          and-right (within (fieldRange (value i)) (get (value i) r)) (within (fieldRange (level i)) (get (level i) r)) (valid-tell r v .pairs i (omega arith))
+  field-in v =
+      let t = valid-tell r v in
+      by-fields (λ (f : Field). Held f → within (fieldRange f) (get f r) ≡ true) (λ n l h. all-at r scalarFields n (t .scalars-in) l)
+      (λ i h. and-left _ (within (fieldRange (level i)) (get (level i) r)) (t .pairs i (omega arith)))
+      (λ i h. and-right (within (fieldRange (value i)) (get (value i) r)) _ (t .pairs i (omega arith)))
 
   module _ (h : (f : Field) → Held f → within (fieldRange f) (get f r) ≡ true) where
     pairs-from : (n : ℕ) → n ≤ parameterCount → allIn r (parameterFields n) ≡ true
@@ -60,30 +39,15 @@ module _ (r : Record) where
         (and-yes (within (fieldRange (value n)) (get (value n) r)) (within (fieldRange (level n)) (get (level n) r)) (h (value n) (omega arith)) (h (level n) (omega arith))) in
         rw add-one at e
 
-    scalars-from : allIn r (fieldsFor 0) ≡ true
-    unfolding allIn
-    scalars-from =
-        simp (
-          h address (omega arith),
-          h access (omega arith),
-          h phase (omega arith),
-          h keypad (omega arith),
-          h flow (omega arith),
-          h changed (omega arith),
-          h reset (omega arith),
-          h powerfail (omega arith),
-          h recipe (omega arith),
-          h preset (omega arith),
-          h raw (omega arith),
-          h number (omega arith),
-        )
+    scalars-from : allIn r scalarFields ≡ true
+    scalars-from = all-from r scalarFields (λ n l. let e = scalar-at n l in h (getD scalarFields n address) (omega arith))
 
     pub fields-in : length (r .values) ≡ parameterCount → length (r .levels) ≡ parameterCount → valid r ≡ true
     unfolding valid
     fields-in v l =
         and-yes (fullLength r) (allIn r (fieldsFor parameterCount))
         (and-yes (eqb (length (r .values)) parameterCount) (eqb (length (r .levels)) parameterCount) (eq-eqb _ _ v) (eq-eqb _ _ l))
-        (fields-split r parameterCount ∙ and-yes (allIn r (fieldsFor 0)) (allIn r (parameterFields parameterCount)) scalars-from (pairs-from parameterCount (omega arith)))
+        (fields-split r parameterCount ∙ and-yes (allIn r scalarFields) (allIn r (parameterFields parameterCount)) scalars-from (pairs-from parameterCount (omega arith)))
 
 -- ---- a write within the field's range
 module _ (r : Record) (v : valid r ≡ true) where
@@ -101,6 +65,13 @@ module _ (r : Record) (v : valid r ≡ true) where
       go g l false e = ap (within (fieldRange g)) (get-put-other f g n r (eqb-false _ _ e)) ∙ field-in r v g l
 
 -- ---- the panel and the phase changes
+pub next-within : (n : ℕ) → within (fieldRange number) (nextNumber n) ≡ true
+next-within n = go (ltb n (fieldRange number .high)) refl
+  where
+    go : (b : Bool) → ltb n (fieldRange number .high) ≡ b → within (fieldRange number) (pick b (n + 1) (fieldRange number .low)) ≡ true
+    go true e = let l : n < fieldRange number .high = ltb-true _ _ e in between-yes _ _ (n + 1) (omega arith) (omega arith)
+    go false e = refl
+
 chosen : (b : Bool) (r s : Record) → valid r ≡ true → valid s ≡ true → valid (pick b r s) ≡ true
 chosen true r s p q = p
 chosen false r s p q = q
@@ -112,7 +83,7 @@ module _ (r : Record) (v : valid r ≡ true) where
   pulses-kept : (n : ℕ) → valid (pulses n r) ≡ true
   unfolding pulses
   pulses-kept n =
-      let c : valid (put raw ((r .raw + n) % 100000000) r) ≡ true = put-kept r v raw ((r .raw + n) % 100000000) (between-yes 0 99999999 ((r .raw + n) % 100000000) (omega arith) (omega arith)) in
+      let c : valid (put raw ((r .raw + n) % 100000000) r) ≡ true = put-kept r v raw ((r .raw + n) % 100000000) (between-yes _ _ ((r .raw + n) % 100000000) (omega arith) (omega arith)) in
       chosen (eqb n 0) r _ v
       (put-kept (pick (inPhase idle r) r (finished n r (put raw ((r .raw + n) % 100000000) r)))
       (chosen (inPhase idle r) r _ v (if-put (inPhase running r && leb (r .preset) (r .raw + n)) phase done (put raw ((r .raw + n) % 100000000) r) c refl)) flow on refl)
@@ -134,19 +105,15 @@ module _ (r : Record) (v : valid r ≡ true) where
   after-kept e = simp v (happened-kept e)
 
   pub next-in : within (fieldRange number) (nextNumber (r .number)) ≡ true
-  next-in = go (ltb (r .number) 9999) refl
-    where
-      go : (b : Bool) → ltb (r .number) 9999 ≡ b → within (fieldRange number) (pick b (r .number + 1) 1) ≡ true
-      go true e = let l : r .number < 9999 = ltb-true (r .number) 9999 e in between-yes 1 9999 (r .number + 1) (omega arith) (omega arith)
-      go false e = refl
+  next-in = next-within (r .number)
 
-  pub batch-kept : (n : ℕ) → n ≤ 999999 → valid (batchSet n r) ≡ true
+  pub batch-kept : (n : ℕ) → n ≤ fieldRange preset .high → valid (batchSet n r) ≡ true
   unfolding batchSet
   batch-kept n h =
       let a = put-kept r v number (nextNumber (r .number)) next-in in
       let b = put-kept _ a reset on refl in
       let c = put-kept _ b raw 0 refl in
-      let d = put-kept _ c preset n (between-yes 0 999999 n (omega arith) h) in
+      let d = put-kept _ c preset n (between-yes _ _ n (omega arith) h) in
       put-kept _ d phase set refl
 
   pub started-kept : valid (started r) ≡ true

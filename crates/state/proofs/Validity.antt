@@ -7,39 +7,45 @@ use mathlib.Core.Logic.{⊎-elim}
 use native.Mathlib.Nat.{eq-or-lt-of-le, not-suc-le-zero, le-of-suc-le-suc}
 use native.Mathlib.Numerals.{add-one}
 use native.Mathlib.Omega.{arith}
-use lib.Dec.{eqb}
+use lib.Dec.{eqb, leb}
 use lib.ListN.{length, getD}
-use borrow.Author.Tests.{eq-eqb, eqb-true, not-true, not-false}
+use borrow.Author.Tests.{eq-eqb, eqb-true, le-leb, not-true, not-false}
 use Rattle.state.specs.declared.Phase.{Phase}
 use Rattle.state.specs.declared.Phase.the-variants.{Idle, Set, Running, Stopped, Done}
 use Rattle.state.specs.declared.Record.{Record}
 use Rattle.state.specs.declared.Range.{Range}
 use Rattle.base.specs.Test.{between, allBetween}
 use Rattle.state.specs.Parameter.{recipes, parameterCount, rangeAt}
-use Rattle.state.specs.Field.{Field, address, value, level, get, fieldRange, fieldsFor, parameterFields, phaseNumber, flagNumber, off, on}
+use Rattle.state.specs.Field.{Field, address, access, phase, recipe, preset, raw, number, value, level, get, fieldRange, position, scalarFields, fieldsFor, parameterFields, phaseNumber, flagNumber, on}
 use Rattle.state.specs.Valid.{within, allIn, fullLength, valid}
-use Rattle.base.proofs.Tests.{and-yes, and-left, and-right, between-yes, between-low, between-high}
+use Rattle.base.proofs.Tests.{and-yes, and-left, and-right, between-high}
 use Rattle.state.proofs.Parameters.{range-repeats}
 
-pub flag-in : (b : Bool) → between off on (flagNumber b) ≡ true
-flag-in true = refl
-flag-in false = refl
+flag-high : (b : Bool) → leb (flagNumber b) on ≡ true
+flag-high true = refl
+flag-high false = refl
 
-pub phase-in : (p : Phase) → between 0 4 (phaseNumber p) ≡ true
-phase-in Idle = refl
-phase-in Set = refl
-phase-in Running = refl
-phase-in Stopped = refl
-phase-in Done = refl
+phase-high : (p : Phase) → leb (phaseNumber p) (fieldRange phase .high) ≡ true
+phase-high Idle = refl
+phase-high Set = refl
+phase-high Running = refl
+phase-high Stopped = refl
+phase-high Done = refl
 
-and-grouped : (a b c d : Bool) → d ≡ (b && c) → (a && d) ≡ ((a && b) && c)
-and-grouped true b c d e = e
-and-grouped false b c d e = refl
+and-assoc : (a b c : Bool) → ((a && b) && c) ≡ (a && (b && c))
+and-assoc true b c = refl
+and-assoc false b c = refl
+
+and-yes-r : (a : Bool) → (a && true) ≡ a
+and-yes-r true = refl
+and-yes-r false = refl
 
 pub all-append : (r : Record) (xs ys : List Field) → allIn r (xs ++ ys) ≡ (allIn r xs && allIn r ys)
 unfolding allIn
 all-append r [] ys = refl
-all-append r (x ∷ xs) ys = and-grouped (within (fieldRange x) (get x r)) (allIn r xs) (allIn r ys) (allIn r (xs ++ ys)) (all-append r xs ys)
+all-append r (x ∷ xs) ys =
+    let w : Bool = within (fieldRange x) (get x r) in
+    ap (λ (b : Bool). w && b) (all-append r xs ys) ∙ sym (and-assoc w (allIn r xs) (allIn r ys))
 
 -- a field of the list is in its range
 pub all-at : (r : Record) (fs : List Field) (i : ℕ) → allIn r fs ≡ true → i < length fs
@@ -49,55 +55,55 @@ all-at r [] i h l = absurd (not-suc-le-zero l)
 all-at r (f ∷ fs) zero h l = and-left (within (fieldRange f) (get f r)) (allIn r fs) h
 all-at r (f ∷ fs) (suc i) h l = all-at r fs i (and-right (within (fieldRange f) (get f r)) (allIn r fs) h) (le-of-suc-le-suc l)
 
+-- all are, if each is
+pub all-from : (r : Record) (fs : List Field) → ((i : ℕ) → i < length fs → within (fieldRange (getD fs i address)) (get (getD fs i address) r) ≡ true)
+    → allIn r fs ≡ true
+unfolding allIn
+all-from r [] h = refl
+all-from r (f ∷ fs) h = and-yes (within (fieldRange f) (get f r)) (allIn r fs) (h 0 (omega arith)) (all-from r fs (λ i l. h (suc i) (omega arith)))
+
 -- ---- the fields but the parameters'
 
--- those whose type allows more than their range
-pub record Scalars (r : Record) : Type 0 where
-  pub address-low : 1 ≤ r .address
-  pub address-high : r .address ≤ 99
-  pub access-high : r .access ≤ 3
-  pub recipe-low : 1 ≤ r .recipe
-  pub recipe-high : r .recipe ≤ recipes
-  pub preset-high : r .preset ≤ 999999
-  pub raw-high : r .raw ≤ 99999999
-  pub number-low : 1 ≤ r .number
-  pub number-high : r .number ≤ 9999
+-- the ends beyond which their types go
+abbrev ends : Record → List Bool
+ends r =
+    leb (r .address) (fieldRange address .high)
+    ∷ leb (r .access) (fieldRange access .high)
+    ∷ leb (fieldRange recipe .low) (r .recipe)
+    ∷ leb (r .recipe) (fieldRange recipe .high)
+    ∷ leb (r .preset) (fieldRange preset .high)
+    ∷ leb (r .raw) (fieldRange raw .high)
+    ∷ leb (fieldRange number .low) (r .number)
+    ∷ leb (r .number) (fieldRange number .high)
+    ∷ []
 
-pub scalars-yes : (r : Record) → Scalars r → allIn r (fieldsFor 0) ≡ true
+-- one test after the other, as the code has them
+abbrev tests : Bool → List Bool → Bool
+tests b [] = b
+tests b (t ∷ ts) = tests (b && t) ts
+
+low-zero : (n : ℕ) → leb 0 n ≡ true
+low-zero n = le-leb 0 n (omega arith)
+
+pub scalars-tested : (r : Record) → tests (leb (fieldRange address .low) (r .address)) (ends r) ≡ allIn r scalarFields
 unfolding allIn
-scalars-yes r f =
-    simp (
-      between-yes 1 99 (r .address) (f .address-low) (f .address-high),
-      between-yes 0 3 (r .access) (omega arith) (f .access-high),
-      phase-in,
-      flag-in,
-      between-yes 1 recipes (r .recipe) (f .recipe-low) (f .recipe-high),
-      between-yes 0 999999 (r .preset) (omega arith) (f .preset-high),
-      between-yes 0 99999999 (r .raw) (omega arith) (f .raw-high),
-      between-yes 1 9999 (r .number) (f .number-low) (f .number-high),
-    )
+scalars-tested r = simp (phase-high, flag-high, low-zero, and-assoc, and-yes-r)
 
-pub scalars-tell : (r : Record) → allIn r (fieldsFor 0) ≡ true → Scalars r
+-- the ends that laws ask for
+pub record Scalars (r : Record) : Type 0 where
+  pub address-high : r .address ≤ fieldRange address .high
+  pub raw-high : r .raw ≤ fieldRange raw .high
+
+scalars-tell : (r : Record) → allIn r scalarFields ≡ true → Scalars r
 scalars-tell r h =
-    let at : (i : ℕ) → i < 12 → within (fieldRange (getD (fieldsFor 0) i address)) (get (getD (fieldsFor 0) i address) r) ≡ true = λ i l. all-at r (fieldsFor 0) i h l in
     record {
-      address-low = between-low 1 99 _ (at 0 (omega arith));
-      address-high = between-high 1 99 _ (at 0 (omega arith));
-      access-high = between-high 0 3 _ (at 1 (omega arith));
-      recipe-low = between-low 1 recipes _ (at 8 (omega arith));
-      recipe-high = between-high 1 recipes _ (at 8 (omega arith));
-      preset-high = between-high 0 999999 _ (at 9 (omega arith));
-      raw-high = between-high 0 99999999 _ (at 10 (omega arith));
-      number-low = between-low 1 9999 _ (at 11 (omega arith));
-      number-high = between-high 1 9999 _ (at 11 (omega arith));
+      address-high = between-high _ _ _ (all-at r scalarFields (position address) h (omega arith));
+      raw-high = between-high _ _ _ (all-at r scalarFields (position raw) h (omega arith));
     }
 
 decided : (b : Bool) → (b ≡ true → ⊥) → false ≡ b
 decided true h = absurd (h refl)
 decided false h = refl
-
-pub scalars-no : (r : Record) → (Scalars r → ⊥) → false ≡ allIn r (fieldsFor 0)
-scalars-no r h = decided (allIn r (fieldsFor 0)) (λ t. h (scalars-tell r t))
 
 -- ---- the parameters' fields
 
@@ -124,11 +130,12 @@ pairs-at r (suc n) i h l =
     (eq-or-lt-of-le (omega arith))
 
 -- ---- the whole
-pub fields-split : (r : Record) (n : ℕ) → allIn r (fieldsFor n) ≡ (allIn r (fieldsFor 0) && allIn r (parameterFields n))
-fields-split r n = all-append r (fieldsFor 0) (parameterFields n)
+pub fields-split : (r : Record) (n : ℕ) → allIn r (fieldsFor n) ≡ (allIn r scalarFields && allIn r (parameterFields n))
+fields-split r n = all-append r scalarFields (parameterFields n)
 
 -- what validity tells
 pub record Facts (r : Record) : Type 0 where
+  pub scalars-in : allIn r scalarFields ≡ true
   pub scalars : Scalars r
   pub values-length : length (r .values) ≡ parameterCount
   pub levels-length : length (r .levels) ≡ parameterCount
@@ -141,15 +148,17 @@ valid-tell r h =
     let f = sym (fields-split r parameterCount) ∙ and-right (fullLength r) (allIn r (fieldsFor parameterCount)) h in
     let a = eqb (length (r .values)) parameterCount in
     let b = eqb (length (r .levels)) parameterCount in
+    let g = and-left (allIn r scalarFields) (allIn r (parameterFields parameterCount)) f in
     record {
-      scalars = scalars-tell r (and-left (allIn r (fieldsFor 0)) (allIn r (parameterFields parameterCount)) f);
+      scalars-in = g;
+      scalars = scalars-tell r g;
       values-length = eqb-true (length (r .values)) parameterCount (and-left a b l);
       levels-length = eqb-true (length (r .levels)) parameterCount (and-right a b l);
-      pairs = λ i q. pairs-at r parameterCount i (and-right (allIn r (fieldsFor 0)) (allIn r (parameterFields parameterCount)) f) q;
+      pairs = λ i q. pairs-at r parameterCount i (and-right (allIn r scalarFields) (allIn r (parameterFields parameterCount)) f) q;
     }
 
-pub not-valid-scalars : (r : Record) (b : Bool) → b ≡ allIn r (fieldsFor 0) → not b ≡ true → false ≡ valid r
-not-valid-scalars r b e n = decided (valid r) (λ h. false≢true (sym (not-true b n) ∙ (e ∙ scalars-yes r (valid-tell r h .scalars))))
+pub not-valid-scalars : (r : Record) (b : Bool) → b ≡ allIn r scalarFields → not b ≡ true → false ≡ valid r
+not-valid-scalars r b e n = decided (valid r) (λ h. false≢true (sym (not-true b n) ∙ (e ∙ valid-tell r h .scalars-in)))
 
 -- ---- the values and the levels of all parameters
 all-between : (low high : ℕ) (s : List ℕ) → ((i : ℕ) → i < length s → between low high (getD s i 0) ≡ true) → allBetween low high s ≡ true
@@ -162,6 +171,13 @@ unfolding allBetween
 between-at low high [] i h l = absurd (not-suc-le-zero l)
 between-at low high (x ∷ s) zero h l = and-left (between low high x) (allBetween low high s) h
 between-at low high (x ∷ s) (suc i) h l = between-at low high s i (and-right (between low high x) (allBetween low high s) h) (le-of-suc-le-suc l)
+
+-- each level's range
+abbrev lowLevel : ℕ
+lowLevel = fieldRange (level 0) .low
+
+abbrev highLevel : ℕ
+highLevel = fieldRange (level 0) .high
 
 -- the value at place i
 abbrev pub valueIn : Record → ℕ → Bool
@@ -242,29 +258,29 @@ module _ (r : Record) (i : ℕ) (b : Bool) (below : i < recipes)
 pub not-valid-value : (r : Record) (p : ℕ) (b : Bool) → b ≡ within (rangeAt p) (getD (r .values) p 0) → not b ≡ true → p < parameterCount → false ≡ valid r
 not-valid-value r p b e n l = decided (valid r) (λ h. false≢true (sym (not-true b n) ∙ (e ∙ value-valid r h p l)))
 
-pub not-valid-levels : (r : Record) (b : Bool) → b ≡ allBetween 0 3 (r .levels) → not b ≡ true → false ≡ valid r
+pub not-valid-levels : (r : Record) (b : Bool) → b ≡ allBetween lowLevel highLevel (r .levels) → not b ≡ true → false ≡ valid r
 not-valid-levels r b e n =
     decided (valid r)
     (λ h.
     let l = valid-tell r h .levels-length in
-    false≢true (sym (not-true b n) ∙ (e ∙ all-between 0 3 (r .levels) (λ i q. and-right (valueIn r i) _ (valid-tell r h .pairs i (omega arith))))))
+    false≢true (sym (not-true b n) ∙ (e ∙ all-between lowLevel highLevel (r .levels) (λ i q. and-right (valueIn r i) _ (valid-tell r h .pairs i (omega arith))))))
 
 -- the parameters' fields, by values and levels
-pairs-all : (r : Record) (n : ℕ) → ValuesIn r n → n ≤ length (r .levels) → allBetween 0 3 (r .levels) ≡ true → allIn r (parameterFields n) ≡ true
+pairs-all : (r : Record) (n : ℕ) → ValuesIn r n → n ≤ length (r .levels) → allBetween lowLevel highLevel (r .levels) ≡ true → allIn r (parameterFields n) ≡ true
 unfolding allIn
 pairs-all r zero v l h = refl
 pairs-all r (suc n) v l h =
     rw add-one at (pairs-more r n) ∙ and-yes (allIn r (parameterFields n)) (pairIn r n)
     (pairs-all r n (record { each = λ i q. v .each i (omega arith) }) (omega arith) h)
-    (and-yes (valueIn r n) _ (v .each n (omega arith)) (between-at 0 3 (r .levels) n h (omega arith)))
+    (and-yes (valueIn r n) _ (v .each n (omega arith)) (between-at lowLevel highLevel (r .levels) n h (omega arith)))
 
 pub valid-all : (r : Record) (a b : Bool) (p : ℕ) → length (r .values) ≡ parameterCount → length (r .levels) ≡ parameterCount
-    → a ≡ allIn r (fieldsFor 0) → not a ≡ false → b ≡ allBetween 0 3 (r .levels) → not b ≡ false → ValuesIn r p → parameterCount ≤ p → true ≡ valid r
+    → a ≡ allIn r scalarFields → not a ≡ false → b ≡ allBetween lowLevel highLevel (r .levels) → not b ≡ false → ValuesIn r p → parameterCount ≤ p → true ≡ valid r
 unfolding valid
 valid-all r a b p v l e n f m h q =
     let values : ValuesIn r parameterCount = record { each = λ i j. h .each i (omega arith) } in
     sym
     (and-yes (fullLength r) (allIn r (fieldsFor parameterCount))
     (and-yes (eqb (length (r .values)) parameterCount) (eqb (length (r .levels)) parameterCount) (eq-eqb _ _ v) (eq-eqb _ _ l))
-    (fields-split r parameterCount ∙ and-yes (allIn r (fieldsFor 0)) (allIn r (parameterFields parameterCount)) (sym e ∙ not-false a n)
+    (fields-split r parameterCount ∙ and-yes (allIn r scalarFields) (allIn r (parameterFields parameterCount)) (sym e ∙ not-false a n)
     (pairs-all r parameterCount values (omega arith) (sym f ∙ not-false b m))))

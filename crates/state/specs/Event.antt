@@ -7,7 +7,7 @@ use Rattle.state.specs.declared.Event.{Event}
 use Rattle.state.specs.declared.Event.the-variants.{Pulses, Still, KeypadOn, KeypadOff, PowerBack}
 use Rattle.state.specs.declared.Record.{Record}
 use Rattle.base.specs.Test.{pick}
-use Rattle.state.specs.Field.{phase, keypad, flow, reset, powerfail, preset, raw, number, phaseNumber, on, off, get, put}
+use Rattle.state.specs.Field.{phase, keypad, flow, reset, powerfail, preset, raw, number, phaseNumber, on, off, fieldRange, get, put}
 use Rattle.state.specs.Valid.{valid}
 
 -- the phases by number
@@ -66,7 +66,7 @@ after e r = pick (valid r) (happened e r) r
 
 -- "batch number +1 (9999 goes to 1)"
 abbrev pub nextNumber : ℕ → ℕ
-nextNumber n = pick (ltb n 9999) (n + 1) 1
+nextNumber n = pick (ltb n (fieldRange number .high)) (n + 1) (fieldRange number .low)
 
 -- SB n: "phase Set, preset n, raw 0, batch reset on, batch number +1"
 unfoldable pub batchSet : ℕ → Record → Record

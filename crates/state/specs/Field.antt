@@ -3,7 +3,7 @@ use Prim.Native.Nat.{ℕ, zero, suc, _+_, _-_, _*_, _/_, _%_}
 use mathlib.Core.Bool.{Bool, true, false, _&&_}
 use mathlib.Core.List.{List, [], _∷_, _++_}
 use lib.Dec.{eqb, leb}
-use lib.ListN.{getD, set}
+use lib.ListN.{length, getD, set}
 use Rattle.state.specs.declared.Phase.{Phase}
 use Rattle.state.specs.declared.Phase.the-variants.{Idle, Set, Running, Stopped, Done}
 use Rattle.state.specs.declared.Record.{Record}
@@ -78,6 +78,13 @@ get (level i) r = getD (r .levels) i 0
 
 -- ---- the fields in the order of 01's table, "then for each parameter in rising code" its value and its level
 
+-- all but the parameters'
+abbrev pub scalarFields : List Field
+scalarFields = address ∷ access ∷ phase ∷ keypad ∷ flow ∷ changed ∷ reset ∷ powerfail ∷ recipe ∷ preset ∷ raw ∷ number ∷ []
+
+abbrev pub scalarCount : ℕ
+scalarCount = length scalarFields
+
 -- a field's position in that order
 abbrev pub position : Field → ℕ
 position address = 0
@@ -92,8 +99,8 @@ position recipe = 8
 position preset = 9
 position raw = 10
 position number = 11
-position (value i) = 12 + 2 * i
-position (level i) = 13 + 2 * i
+position (value i) = scalarCount + 2 * i
+position (level i) = scalarCount + 1 + 2 * i
 
 -- the fields of the first n parameters
 abbrev pub parameterFields : ℕ → List Field
@@ -102,8 +109,7 @@ parameterFields (suc n) = parameterFields n ++ (value n ∷ level n ∷ [])
 
 -- all fields with n parameters
 abbrev pub fieldsFor : ℕ → List Field
-fieldsFor n =
-    address ∷ access ∷ phase ∷ keypad ∷ flow ∷ changed ∷ reset ∷ powerfail ∷ recipe ∷ preset ∷ raw ∷ number ∷ parameterFields n
+fieldsFor n = scalarFields ++ parameterFields n
 
 -- ---- writing a field: the record with the number n there, and all else as it was
 abbrev pub is : Field → Field → Bool
@@ -128,8 +134,8 @@ put f n r =
       preset = pick (is f preset) n (r .preset);
       raw = pick (is f raw) n (r .raw);
       number = pick (is f number) n (r .number);
-      values = putAt 12 f n (r .values);
-      levels = putAt 13 f n (r .levels);
+      values = putAt (position (value 0)) f n (r .values);
+      levels = putAt (position (level 0)) f n (r .levels);
     }
 
 -- ---- the record of given numbers

@@ -3,7 +3,7 @@ ghost use mathlib.Core.Path.{_≡_};
 ghost use mathlib.Core.Bool.{_&&_};
 ghost use Prim.Native.Nat.{_%_};
 ghost use Rattle.state.specs.Parameter.{codeAt, rangeAt, placeOf};
-ghost use Rattle.state.specs.Field.{Field, put, phaseNumber, fieldsFor};
+ghost use Rattle.state.specs.Field.{Field, get, put, phaseNumber, scalarFields};
 ghost use Rattle.state.specs.Valid.{within, allIn, valid};
 ghost use Rattle.state.specs.Event.{after, nextNumber, batchSet, started, halted, ended};
 
@@ -32,6 +32,41 @@ pub struct Range {
     pub low: u32,
     pub high: u32,
 }
+
+// ---- the range of each field but the parameters' values
+pub const ADDRESS_RANGE: Range = Range { low: 1, high: 99 };
+
+pub const ACCESS_RANGE: Range = Range { low: 0, high: 3 };
+
+pub const PHASE_RANGE: Range = Range { low: 0, high: 4 };
+
+pub const RECIPE_RANGE: Range = Range {
+    low: 1,
+    high: RECIPES as u32,
+};
+
+pub const PRESET_RANGE: Range = Range {
+    low: 0,
+    high: 999999,
+};
+
+pub const RAW_RANGE: Range = Range {
+    low: 0,
+    high: 99999999,
+};
+
+pub const NUMBER_RANGE: Range = Range { low: 1, high: 9999 };
+
+// The same as numbers of the field's own type.
+const FIRST_NUMBER: u16 = NUMBER_RANGE.low as u16;
+
+const LAST_NUMBER: u16 = NUMBER_RANGE.high as u16;
+
+pub const LEVEL_RANGE: Range = Range { low: 0, high: 3 };
+
+const LOW_LEVEL: u8 = LEVEL_RANGE.low as u8;
+
+const HIGH_LEVEL: u8 = LEVEL_RANGE.high as u8;
 
 pub struct Record {
     pub address: u8,
@@ -177,46 +212,31 @@ fn recipe_valid(share: u32, factor: u32, flow: u32) -> bool
 pub fn next_number(n: u16) -> u16
     ensures { λ r. ⌜ r ≡ nextNumber n ⌝ }
 {
-    if n < 9999 {
+    if n < LAST_NUMBER {
         return n + 1;
     }
-    1
+    FIRST_NUMBER
 }
 
 // ---- the record
 impl Record {
-    // The fields but the parameters' are in their ranges.
+    // The fields but the parameters' are in their ranges: the ends beyond which their types go.
     fn scalars_valid(self) -> bool
-        ensures { λ b. ⌜ b ≡ allIn self (fieldsFor 0) ⌝ }
+        ensures { λ b. ⌜ b ≡ allIn self scalarFields ⌝ }
     {
-        if self.address < 1 {
-            return false;
-        }
-        if 99 < self.address {
-            return false;
-        }
-        if 3 < self.access {
-            return false;
-        }
-        if self.recipe < 1 {
-            return false;
-        }
-        if RECIPES < self.recipe as usize {
-            return false;
-        }
-        if 999999 < self.preset {
-            return false;
-        }
-        if 99999999 < self.raw {
-            return false;
-        }
-        if self.number < 1 {
-            return false;
-        }
-        if 9999 < self.number {
-            return false;
-        }
-        true
+        let address = self.address as u32;
+        let access = self.access as u32;
+        let recipe = self.recipe as u32;
+        let number = self.number as u32;
+        (ADDRESS_RANGE.low <= address)
+            & (address <= ADDRESS_RANGE.high)
+            & (access <= ACCESS_RANGE.high)
+            & (RECIPE_RANGE.low <= recipe)
+            & (recipe <= RECIPE_RANGE.high)
+            & (self.preset <= PRESET_RANGE.high)
+            & (self.raw <= RAW_RANGE.high)
+            & (NUMBER_RANGE.low <= number)
+            & (number <= NUMBER_RANGE.high)
     }
 
     // Each field lies in its own range.
@@ -227,7 +247,7 @@ impl Record {
             return false;
         }
         let levels = self.levels;
-        if !base::all_between(0, 3, &levels) {
+        if !base::all_between(LOW_LEVEL, HIGH_LEVEL, &levels) {
             return false;
         }
         let mut i = 0;
@@ -251,27 +271,29 @@ impl Record {
         true
     }
 
+    // The value and the level at a place; 0 beyond the last.
+    pub fn value_at(self, place: usize) -> u32
+        ensures { λ n. ⌜ n ≡ get (Field.value place) self ⌝ }
+    {
+        if place < PARAMETERS {
+            return self.values[place];
+        }
+        0
+    }
+
+    pub fn level_at(self, place: usize) -> u8
+        ensures { λ n. ⌜ n ≡ get (Field.level place) self ⌝ }
+    {
+        if place < PARAMETERS {
+            return self.levels[place];
+        }
+        0
+    }
+
     fn in_phase(self, p: Phase) -> Record
         ensures { λ r. ⌜ r ≡ put Field.phase (phaseNumber p) self ⌝ }
     {
-        let values = self.values;
-        let levels = self.levels;
-        Record {
-            address: self.address,
-            access: self.access,
-            phase: p,
-            keypad: self.keypad,
-            flow: self.flow,
-            changed: self.changed,
-            reset: self.reset,
-            powerfail: self.powerfail,
-            recipe: self.recipe,
-            preset: self.preset,
-            raw: self.raw,
-            number: self.number,
-            values: values,
-            levels: levels,
-        }
+        Record { phase: p, ..self }
     }
 
     // ---- the panel; a record that is not valid comes back unchanged

@@ -6,9 +6,10 @@ use native.Mathlib.Nat.{pow-suc}
 use native.Mathlib.Numerals.{add-one}
 use native.Mathlib.Omega.{arith}
 use lib.ListN.{length, getD, take, drop, set, length-append, length-take, length-drop}
-use lib.Seq.{take-suc, take-all, drop-drop, drop-at, drop-length, length-take-le, set-split, sets, sets-eq}
+use lib.Seq.{take-suc, take-all, drop-drop, drop-length, sets, sets-eq}
 use borrow.Rule.Slice.PartMut.{putMid}
 use Rattle.base.specs.Lists.{over}
+use Rattle.base.proofs.Lists.{fill-before}
 use Rattle.stored.specs.Form.{bigEndian, numberFrom, numberOf}
 
 -- ---- one number
@@ -104,11 +105,7 @@ unfolding bigEndian
 fill-again zero rest o whole p h e = absurd (omega arith)
 fill-again (suc l) rest o whole p h e =
     let i : suc l - 1 ≡ l = omega arith in
-    let d : ℕ = rest % 256 in
-    let f : drop l (set o l d) ≡ d ∷ drop (suc l) o =
-    ap (drop l) (set-split o l d h) ∙ drop-at (take l o) (d ∷ drop (suc l) o) l (length-take-le l o (omega arith)) in
-    ap (λ (k : ℕ). bigEndian k (rest / 256) ++ drop k (set o k d)) i ∙ ap (λ (y : List ℕ). bigEndian l (rest / 256) ++ y) f
-    ∙ sym (append-assoc (bigEndian l (rest / 256)) (d ∷ []) (drop (suc l) o)) ∙ e
+    ap (λ (k : ℕ). bigEndian k (rest / 256) ++ drop k (set o k (rest % 256))) i ∙ fill-before (bigEndian l (rest / 256)) (rest % 256) l o whole h e
 
 pub fill-done : (left rest : ℕ) (o whole : List ℕ) → left ≤ 0 → bigEndian left rest ++ drop left o ≡ whole → o ≡ whole
 unfolding bigEndian

@@ -1,17 +1,15 @@
 -- The record of the low ends, as the code fills it. Assumes nothing.
 use Prim.Native.Nat.{ℕ, _+_, _≤_, _<_}
-use mathlib.Core.Bool.{false}
 use mathlib.Core.Path.{_≡_, refl, sym, ap, _∙_}
 use mathlib.Core.List.{List}
 use native.Mathlib.Omega.{arith}
 use native.Mathlib.Numerals.{add-one}
-use lib.ListN.{length, set, replicate}
+use lib.ListN.{length, set}
 use Rattle.base.specs.Lists.{over}
-use Rattle.state.specs.declared.Record.{Record}
 use Rattle.state.specs.declared.Range.{Range}
-use Rattle.state.specs.declared.Phase.the-variants.{Idle}
 use Rattle.state.specs.Parameter.{parameterCount, rangeAt}
-use Rattle.state.specs.Field.{phaseOf, listed, recordFrom}
+use Rattle.state.specs.Field.{listed, recordFrom}
+use Rattle.state.proofs.Fields.{withLists}
 use Rattle.state.proofs.Whole.{listed-length}
 use Rattle.stored.specs.Form.{lowRecord}
 use Rattle.base.proofs.Lists.{over-put, over-all}
@@ -33,27 +31,10 @@ low-more vs ws i g l h e q =
     ap (λ (k : ℕ). over (lows k) vs) (sym (add-one i))))
 
 pub low-is : (vs ws : List ℕ) (i : ℕ) → length vs ≡ parameterCount → i ≤ parameterCount → parameterCount ≤ i → ws ≡ over (lows i) vs
-    → _≡_ {A = Record}
-    (record {
-      address = 1;
-      access = 0;
-      phase = Idle;
-      keypad = false;
-      flow = false;
-      changed = false;
-      reset = false;
-      powerfail = false;
-      recipe = 1;
-      preset = 0;
-      raw = 0;
-      number = 1;
-      values = ws;
-      levels = replicate parameterCount 0;
-    })
-    lowRecord
-unfolding lowRecord recordFrom phaseOf listed
+    → withLists ws (lowRecord .levels) lowRecord ≡ lowRecord
+unfolding lowRecord recordFrom
 low-is vs ws i l h k q =
     let e : i ≡ parameterCount = omega arith in
     let n = listed-length (λ (j : ℕ). rangeAt j .low) parameterCount in
     let w : ws ≡ lows parameterCount = q ∙ (ap (λ (j : ℕ). over (lows j) vs) e ∙ over-all (lows parameterCount) vs (omega arith)) in
-    cc
+    ap (λ (x : List ℕ). withLists x (lowRecord .levels) lowRecord) w

@@ -10,8 +10,8 @@ use lib.ListN.{length, getD}
 use borrow.Author.Tests.{leb-true}
 use Rattle.base.proofs.Tests.{and-left, and-right}
 use Rattle.state.specs.declared.Range.{Range}
-use Rattle.state.specs.Parameter.{rangeAt}
-use Rattle.state.specs.Field.{value, level}
+use Rattle.state.specs.Parameter.{range, parameterCount, rangeAt}
+use Rattle.state.specs.Field.{address, access, phase, recipe, preset, raw, number, value, level, fieldRange}
 use Rattle.stored.specs.declared.Slot.{Slot}
 use Rattle.stored.specs.Layout.{Item, alone, together, scalarItems, parameterItems, current, headerWidth, itemWidth, totalWidth, parametersAt, itemSlot, slotOf, slotsFrom, scalarSlots, noSlot}
 use Rattle.stored.specs.Form.{storedLength}
@@ -33,15 +33,15 @@ slot-room at (x ∷ xs) zero h = let e = slot-width at x in omega arith
 slot-room at (x ∷ xs) (suc k) h = let r = slot-room (at + itemWidth x) xs k (le-of-suc-le-suc h) in omega arith
 
 -- and is of four bytes at most
-abbrev narrow : List Item → Bool
-narrow [] = true
-narrow (x ∷ xs) = leb (itemWidth x) 4 && narrow xs
+abbrev restrict : List Item → Bool
+restrict [] = true
+restrict (x ∷ xs) = leb (itemWidth x) 4 && restrict xs
 
-slot-narrow : (at : ℕ) (xs : List Item) (k : ℕ) → narrow xs ≡ true → k < length xs → getD (slotsFrom at xs) k noSlot .width ≤ 4
+slot-restrict : (at : ℕ) (xs : List Item) (k : ℕ) → restrict xs ≡ true → k < length xs → getD (slotsFrom at xs) k noSlot .width ≤ 4
 unfolding slotsFrom
-slot-narrow at [] k n h = absurd (not-suc-le-zero h)
-slot-narrow at (x ∷ xs) zero n h = let e = slot-width at x in let l : itemWidth x ≤ 4 = leb-true (itemWidth x) 4 (and-left (leb (itemWidth x) 4) (narrow xs) n) in omega arith
-slot-narrow at (x ∷ xs) (suc k) n h = slot-narrow (at + itemWidth x) xs k (and-right (leb (itemWidth x) 4) (narrow xs) n) (le-of-suc-le-suc h)
+slot-restrict at [] k n h = absurd (not-suc-le-zero h)
+slot-restrict at (x ∷ xs) zero n h = let e = slot-width at x in let l : itemWidth x ≤ 4 = leb-true (itemWidth x) 4 (and-left (leb (itemWidth x) 4) (restrict xs) n) in omega arith
+slot-restrict at (x ∷ xs) (suc k) n h = slot-restrict (at + itemWidth x) xs k (and-right (leb (itemWidth x) 4) (restrict xs) n) (le-of-suc-le-suc h)
 
 -- ---- the parameters' items
 pub parameters-width : (n : ℕ) → totalWidth (parameterItems n) ≡ 5 * n
@@ -53,6 +53,9 @@ abbrev pub pair : ℕ → List Item
 pair i = alone 4 (value i) ∷ alone 1 (level i) ∷ []
 
 -- ---- the length
+abbrev pub formLength : ℕ
+formLength = parametersAt + 5 * parameterCount
+
 pub stored-177 : storedLength current ≡ 177
 unfolding storedLength
 stored-177 = refl
@@ -60,7 +63,8 @@ stored-177 = refl
 -- ---- the slots before the parameters', as the code gives them
 abbrev pub scalarTable : List Slot
 scalarTable =
-    slotOf 3 1 1 99 ∷ slotOf 4 1 0 3 ∷ slotOf 5 1 0 4 ∷ slotOf 6 1 0 31 ∷ slotOf 7 1 1 8 ∷ slotOf 8 3 0 999999 ∷ slotOf 11 4 0 99999999 ∷ slotOf 15 2 1 9999 ∷ []
+    slotOf 3 1 (fieldRange address) ∷ slotOf 4 1 (fieldRange access) ∷ slotOf 5 1 (fieldRange phase) ∷ slotOf 6 1 (range 0 31) ∷ slotOf 7 1 (fieldRange recipe)
+    ∷ slotOf 8 3 (fieldRange preset) ∷ slotOf 11 4 (fieldRange raw) ∷ slotOf 15 2 (fieldRange number) ∷ []
 
 table-is : scalarTable ≡ scalarSlots
 unfolding slotsFrom
@@ -73,7 +77,7 @@ scalar-here j {k} {s} e q = q ∙ (ap (λ (l : List Slot). getD l j noSlot) tabl
 abbrev pub Others : ℕ → Type 0
 Others k = ((((((Unit {0} × (k ≡ 0 → ⊥)) × (k ≡ 1 → ⊥)) × (k ≡ 2 → ⊥)) × (k ≡ 3 → ⊥)) × (k ≡ 4 → ⊥)) × (k ≡ 5 → ⊥)) × (k ≡ 6 → ⊥)
 
-pub last-place : (k : ℕ) → Others k → k < 8 → k ≡ 7
+pub last-place : (k : ℕ) → Others k → k < length scalarItems → k ≡ 7
 last-place k n h =
     let a = past k 0 (omega arith) (n .0 .0 .0 .0 .0 .0 .1) in
     let b = past k 3 (past k 2 (past k 1 a (n .0 .0 .0 .0 .0 .1)) (n .0 .0 .0 .0 .1)) (n .0 .0 .0 .1) in
@@ -83,12 +87,12 @@ last-place k n h =
     past : (i j : ℕ) → j ≤ i → (i ≡ j → ⊥) → j + 1 ≤ i
     past i j l d = omega arith
 
-pub scalar-last : {k : ℕ} {s : Slot} → Others k → k < 8 → s ≡ getD scalarTable 7 noSlot → s ≡ getD scalarSlots k noSlot
+pub scalar-last : {k : ℕ} {s : Slot} → Others k → k < length scalarItems → s ≡ getD scalarTable 7 noSlot → s ≡ getD scalarSlots k noSlot
 scalar-last {k} {s} n h e = scalar-here 7 (last-place k n h) e
 
 -- they lie before the parameters', and are of four bytes at most
-module _ (s : Slot) (k : ℕ) (e : s ≡ getD scalarSlots k noSlot) (h : k < 8) where
-  pub scalar-ends : s .at + s .width ≤ 17
+module _ (s : Slot) (k : ℕ) (e : s ≡ getD scalarSlots k noSlot) (h : k < length scalarItems) where
+  pub scalar-ends : s .at + s .width ≤ parametersAt
   scalar-ends =
       let r = slot-room headerWidth scalarItems k h in
       let a = ap (λ (t : Slot). t .at) e in
@@ -96,7 +100,7 @@ module _ (s : Slot) (k : ℕ) (e : s ≡ getD scalarSlots k noSlot) (h : k < 8) 
       omega arith
 
   pub scalar-short : s .width ≤ 4
-  scalar-short = let r = slot-narrow headerWidth scalarItems k refl h in let w = ap (λ (t : Slot). t .width) e in omega arith
+  scalar-short = let r = slot-restrict headerWidth scalarItems k refl h in let w = ap (λ (t : Slot). t .width) e in omega arith
 
 -- ---- the slots of a parameter's value and level
 abbrev pub valueSlot : ℕ → Slot
@@ -105,12 +109,12 @@ valueSlot i = itemSlot (parametersAt + 5 * i) (alone 4 (value i))
 abbrev pub levelSlot : ℕ → Slot
 levelSlot i = itemSlot (parametersAt + 5 * i + 4) (alone 1 (level i))
 
-pub value-is : (i : ℕ) (g : Range) (s : Slot) → g ≡ rangeAt i → s ≡ slotOf (17 + 5 * i) 4 (g .low) (g .high) → s ≡ valueSlot i
-value-is i g s e q = q ∙ ap (λ (r : Range). slotOf (17 + 5 * i) 4 (r .low) (r .high)) e
+pub value-is : (i : ℕ) (g : Range) (s : Slot) → g ≡ rangeAt i → s ≡ slotOf (parametersAt + 5 * i) 4 g → s ≡ valueSlot i
+value-is i g s e q = q ∙ ap (slotOf (parametersAt + 5 * i) 4) e
 
 -- where they end, and how wide they are
-pub value-ends : (i : ℕ) (s : Slot) → s ≡ valueSlot i → (s .at + s .width ≡ 21 + 5 * i) × (s .width ≡ 4)
+pub value-ends : (i : ℕ) (s : Slot) → s ≡ valueSlot i → (s .at + s .width ≡ parametersAt + 5 * i + 4) × (s .width ≡ 4)
 value-ends i s e = let a = ap (λ (t : Slot). t .at) e in let w = ap (λ (t : Slot). t .width) e in (omega arith, w)
 
-pub level-ends : (i : ℕ) (s : Slot) → s ≡ levelSlot i → (s .at + s .width ≡ 22 + 5 * i) × (s .width ≡ 1)
+pub level-ends : (i : ℕ) (s : Slot) → s ≡ levelSlot i → (s .at + s .width ≡ parametersAt + 5 * (i + 1)) × (s .width ≡ 1)
 level-ends i s e = let a = ap (λ (t : Slot). t .at) e in let w = ap (λ (t : Slot). t .width) e in (omega arith, w)

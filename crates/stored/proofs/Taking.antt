@@ -1,5 +1,5 @@
 -- What the readers' answers tell, and what the numbers of some items make of a record, item by item. Assumes nothing.
-use Prim.Native.Nat.{ℕ, zero, suc, _+_, _-_, _*_, _/_, _%_, _≤_, _<_}
+use Prim.Native.Nat.{ℕ, zero, suc, _+_, _-_, _*_, _≤_, _<_}
 use mathlib.Core.Bool.{Bool, true, false, not, _&&_, false≢true}
 use mathlib.Core.Path.{_≡_, refl, sym, ap, _∙_}
 use mathlib.Core.List.{List, [], _∷_, _++_}
@@ -12,11 +12,10 @@ use Rattle.base.specs.Test.{unless, between}
 use Rattle.base.specs.Lists.{over}
 use Rattle.base.proofs.Tests.{by-test, and-yes, and-no, and-left, and-right, between-high, holds-below}
 use Rattle.state.specs.declared.Record.{Record}
-use Rattle.state.specs.declared.Phase.{Phase}
 use Rattle.state.specs.declared.Range.{Range}
 use Rattle.state.specs.Parameter.{recipes, parameterCount, rangeAt}
 use Rattle.state.proofs.Parameters.{range-repeats}
-use Rattle.state.specs.Field.{value, level, put, phaseOf, flagOf, listed, recordFrom}
+use Rattle.state.specs.Field.{number, value, level, put, fieldRange, listed, recordFrom}
 use Rattle.state.proofs.Fields.{withLists, put-value, put-level}
 use Rattle.state.proofs.Whole.{listed-length}
 use Rattle.stored.specs.declared.Header.{Header}
@@ -30,25 +29,25 @@ use Rattle.stored.specs.declared.Slot.{Slot}
 use Rattle.stored.specs.Layout.{Item, alone, scalarItems, parameterItems, current, headerWidth, itemWidth, totalWidth, parametersAt, itemSlot, slotsFrom, scalarSlots, noSlot, putItem, putBits, putAll}
 use Rattle.stored.specs.Form.{Outcome, K, done, refusalNumber, headerAs, numberOf, numberAt, numbersIn, inSlot, allIn, storedLength, headerOf, lowRecord, takenFrom, bodyOf, afterHeader, readOf, numberRead, pairRead, parameterRead}
 use Rattle.base.proofs.Lists.{over-put, over-all}
-use Rattle.stored.proofs.Slots.{pair, valueSlot, levelSlot, parameters-width, stored-177}
+use Rattle.stored.proofs.Slots.{pair, valueSlot, levelSlot, parameters-width, formLength, stored-177}
 
 -- ---- the header
 module _ (s : List ℕ) where
-  pub header-length : (length s ≡ 177 → ⊥) → K 1 ≡ headerOf s
+  pub header-length : (length s ≡ formLength → ⊥) → K 1 ≡ headerOf s
   unfolding headerOf
   header-length n = simp (stored-177, ne-eqb _ _ n)
 
-  module _ (l : length s ≡ 177) where
+  module _ (l : length s ≡ formLength) where
     pub header-version : (getD s 0 0 ≡ 1 → ⊥) → K 2 ≡ headerOf s
     unfolding headerOf
     header-version n = simp (stored-177, eq-eqb _ _ l, ne-eqb _ _ n)
 
     module _ (o : getD s 0 0 ≡ 1) (n : ℕ) (e : n ≡ numberOf (take 2 (drop 1 s))) where
-      pub header-field : (n ≡ 177 → ⊥) → K 3 ≡ headerOf s
+      pub header-field : (n ≡ formLength → ⊥) → K 3 ≡ headerOf s
       unfolding headerOf
       header-field d = simp (stored-177, eq-eqb _ _ l, eq-eqb _ _ o, ne-eqb _ _ (λ q. d (e ∙ q)))
 
-      pub header-good : n ≡ 177 → done ≡ headerOf s
+      pub header-good : n ≡ formLength → done ≡ headerOf s
       unfolding headerOf
       header-good d = simp (stored-177, eq-eqb _ _ l, eq-eqb _ _ o, eq-eqb _ _ (sym e ∙ d))
 
@@ -359,14 +358,13 @@ module _ (bs : List ℕ) where
   lists-new r vs ls vs′ ls′ a b c d = all-new r vs ls a b ∙ sym (all-new r vs′ ls′ c d)
 
 -- ---- the numbers before them
-quarter : (n : ℕ) → n / 2 / 2 ≡ n / 4
-quarter n = omega arith
+low-values : length (lowRecord .values) ≡ parameterCount
+unfolding lowRecord recordFrom
+low-values = listed-length _ parameterCount
 
-eighth : (n : ℕ) → n / 4 / 2 ≡ n / 8
-eighth n = omega arith
-
-sixteenth : (n : ℕ) → n / 8 / 2 ≡ n / 16
-sixteenth n = omega arith
+low-levels : length (lowRecord .levels) ≡ parameterCount
+unfolding lowRecord recordFrom
+low-levels = listed-length _ parameterCount
 
 module _ (bs : List ℕ) where
   -- one that lies outside refuses all
@@ -382,7 +380,7 @@ module _ (bs : List ℕ) where
       taken-inside bs at x xs r _ q ∙ outside-at (at + itemWidth x) xs k (putItem x (numberAt bs (itemSlot at x)) r) (omega arith) o)
       (λ i. taken-outside bs at x xs r i)
 
-  pub body-outside : (k : ℕ) (t : Slot) (x : Number) (a : Outcome) (s : Record) → k < 8 → t ≡ getD scalarSlots k noSlot → x ≡ numberRead t bs → x ≡ number.Outside
+  pub body-outside : (k : ℕ) (t : Slot) (x : Number) (a : Outcome) (s : Record) → k < length scalarItems → t ≡ getD scalarSlots k noSlot → x ≡ numberRead t bs → x ≡ number.Outside
       → a ≡ K 4 → s ≡ lowRecord → (a, s) ≡ bodyOf bs
   unfolding bodyOf
   body-outside k t x a s h i e o p q =
@@ -404,7 +402,7 @@ module _ (bs : List ℕ) where
 
     pub is-two-bytes : k ≡ 7 → n < 65536
     unfolding slotsFrom
-    is-two-bytes h = let l : getD scalarSlots k noSlot .high ≡ 9999 = ap (λ (j : ℕ). getD scalarSlots j noSlot .high) h in below-high 65536 (omega arith)
+    is-two-bytes h = let l : getD scalarSlots k noSlot .high ≡ fieldRange number .high = ap (λ (j : ℕ). getD scalarSlots j noSlot .high) h in below-high 65536 (omega arith)
 
   module _ (t₀ t₁ t₂ t₃ t₄ t₅ t₆ t₇ : Slot) (x₀ x₁ x₂ x₃ x₄ x₅ x₆ x₇ : Number) (n₀ n₁ n₂ n₃ n₄ n₅ n₆ n₇ : ℕ)
       (q₀ : t₀ ≡ getD scalarSlots 0 noSlot) (e₀ : x₀ ≡ numberRead t₀ bs) (i₀ : x₀ ≡ number.Inside n₀)
@@ -415,65 +413,28 @@ module _ (bs : List ℕ) where
       (q₅ : t₅ ≡ getD scalarSlots 5 noSlot) (e₅ : x₅ ≡ numberRead t₅ bs) (i₅ : x₅ ≡ number.Inside n₅)
       (q₆ : t₆ ≡ getD scalarSlots 6 noSlot) (e₆ : x₆ ≡ numberRead t₆ bs) (i₆ : x₆ ≡ number.Inside n₆)
       (q₇ : t₇ ≡ getD scalarSlots 7 noSlot) (e₇ : x₇ ≡ numberRead t₇ bs) (i₇ : x₇ ≡ number.Inside n₇) where
-    all-inside : takenFrom headerWidth scalarItems bs lowRecord ≡ (done, putAll scalarItems (n₀ ∷ n₁ ∷ n₂ ∷ n₃ ∷ n₄ ∷ n₅ ∷ n₆ ∷ n₇ ∷ []) lowRecord)
+    abbrev ns : List ℕ
+    ns = n₀ ∷ n₁ ∷ n₂ ∷ n₃ ∷ n₄ ∷ n₅ ∷ n₆ ∷ n₇ ∷ []
+
+    all-inside : takenFrom headerWidth scalarItems bs lowRecord ≡ (done, putAll scalarItems ns lowRecord)
     unfolding slotsFrom
     all-inside =
-        all-read bs headerWidth scalarItems (n₀ ∷ n₁ ∷ n₂ ∷ n₃ ∷ n₄ ∷ n₅ ∷ n₆ ∷ n₇ ∷ []) lowRecord (place-told 0 t₀ x₀ n₀ q₀ e₀ i₀, (place-told 1 t₁ x₁ n₁ q₁ e₁ i₁, (place-told 2 t₂ x₂ n₂ q₂ e₂ i₂, (place-told 3 t₃ x₃ n₃ q₃ e₃ i₃, (place-told 4 t₄ x₄ n₄ q₄ e₄ i₄, (place-told 5 t₅ x₅ n₅ q₅ e₅ i₅, (place-told 6 t₆ x₆ n₆ q₆ e₆ i₆, (place-told 7 t₇ x₇ n₇ q₇ e₇ i₇, tt))))))))
+        all-read bs headerWidth scalarItems ns lowRecord (place-told 0 t₀ x₀ n₀ q₀ e₀ i₀, (place-told 1 t₁ x₁ n₁ q₁ e₁ i₁, (place-told 2 t₂ x₂ n₂ q₂ e₂ i₂, (place-told 3 t₃ x₃ n₃ q₃ e₃ i₃, (place-told 4 t₄ x₄ n₄ q₄ e₄ i₄, (place-told 5 t₅ x₅ n₅ q₅ e₅ i₅, (place-told 6 t₆ x₆ n₆ q₆ e₆ i₆, (place-told 7 t₇ x₇ n₇ q₇ e₇ i₇, tt))))))))
 
-    -- the record that the code makes of them
-    abbrev made : Phase → List ℕ → List ℕ → Record
-    made p vs ls =
-        record {
-          address = n₀;
-          access = n₁;
-          phase = p;
-          keypad = flagOf (n₃ % 2);
-          flow = flagOf (n₃ / 2 % 2);
-          changed = flagOf (n₃ / 4 % 2);
-          reset = flagOf (n₃ / 8 % 2);
-          powerfail = flagOf (n₃ / 16 % 2);
-          recipe = n₄;
-          preset = n₅;
-          raw = n₆;
-          number = n₇;
-          values = vs;
-          levels = ls;
-        }
-
-    -- with every parameter at its low end it is what the numbers make of the low record
-    made-is : putAll scalarItems (n₀ ∷ n₁ ∷ n₂ ∷ n₃ ∷ n₄ ∷ n₅ ∷ n₆ ∷ n₇ ∷ []) lowRecord ≡ made (phaseOf n₂) (lowRecord .values) (lowRecord .levels)
+    -- the numbers go into no list
+    lists-stay : withLists (lowRecord .values) (lowRecord .levels) (putAll scalarItems ns lowRecord) ≡ putAll scalarItems ns lowRecord
     unfolding putAll putBits put
-    made-is =
-        let q₂ : n₃ / 2 / 2 ≡ n₃ / 4 = quarter n₃ in
-        let q₃ : n₃ / 2 / 2 / 2 ≡ n₃ / 8 = ap (λ (m : ℕ). m / 2) q₂ ∙ eighth n₃ in
-        let q₄ : n₃ / 2 / 2 / 2 / 2 ≡ n₃ / 16 = ap (λ (m : ℕ). m / 2) q₃ ∙ sixteenth n₃ in
-        λ i.
-        record {
-          address = n₀;
-          access = n₁;
-          phase = phaseOf n₂;
-          keypad = flagOf (n₃ % 2);
-          flow = flagOf (n₃ / 2 % 2);
-          changed = flagOf (q₂ i % 2);
-          reset = flagOf (q₃ i % 2);
-          powerfail = flagOf (q₄ i % 2);
-          recipe = n₄;
-          preset = n₅;
-          raw = n₆;
-          number = n₇;
-          values = lowRecord .values;
-          levels = lowRecord .levels;
-        }
+    lists-stay = refl
 
-    pub body-inside : (p : Phase) (vs ls : List ℕ) (a : Outcome) (s : Record) → length vs ≡ parameterCount → length ls ≡ parameterCount → p ≡ phaseOf n₂
-        → (a, s) ≡ takenFrom parametersAt (parameterItems parameterCount) bs (made p vs ls) → (a, s) ≡ bodyOf bs
-    unfolding bodyOf lowRecord recordFrom
-    body-inside p vs ls a s lv ll f e =
+    pub body-inside : (made : Record) (vs ls : List ℕ) (a : Outcome) (s : Record) → length vs ≡ parameterCount → length ls ≡ parameterCount
+        → made ≡ withLists vs ls (putAll scalarItems ns lowRecord) → (a, s) ≡ takenFrom parametersAt (parameterItems parameterCount) bs made → (a, s) ≡ bodyOf bs
+    unfolding bodyOf
+    body-inside made vs ls a s lv ll m e =
+        let read : Record → Outcome × Record = λ r. taken bs r parameterCount in
         e ∙
-        (ap (λ (h : Phase). taken bs (made h vs ls) parameterCount) f ∙
-        (lists-new bs (made (phaseOf n₂) vs ls) vs ls (lowRecord .values) (lowRecord .levels) lv ll (listed-length _ parameterCount) (listed-length _ parameterCount) ∙
-        (ap (λ (r : Record). taken bs r parameterCount) (sym made-is) ∙
-        sym (taken-done bs headerWidth scalarItems (parameterItems parameterCount) lowRecord _ all-inside))))
+        (ap read m ∙
+        (lists-new bs (putAll scalarItems ns lowRecord) vs ls (lowRecord .values) (lowRecord .levels) lv ll low-values low-levels ∙
+        (ap read lists-stay ∙ sym (taken-done bs headerWidth scalarItems (parameterItems parameterCount) lowRecord _ all-inside))))
 
 -- ---- all
 first-done : (b : Bool) (k : ℕ) (o : Outcome) → done ≡ unless b (K k) o → b ≡ true

@@ -19,7 +19,7 @@ use Rattle.stored.specs.declared.Slot.{Slot}
 use Rattle.stored.specs.Layout.{Item, alone, together, scalarItems, parameterItems, current, items, headerWidth, itemWidth, totalWidth, parametersAt, itemSlot, slotsFrom, scalarSlots, noSlot, itemNumber, numbersOf, bits, flagFields}
 use Rattle.stored.specs.Form.{K, done, bigEndian, pack, packed, stored, storedLength, headerBytes, storedForm, writeOf}
 use Rattle.stored.proofs.Bytes.{big-length, sets-append, sets-next, sets-over, part-filled}
-use Rattle.stored.proofs.Slots.{pair, valueSlot, levelSlot, parameters-width, stored-177, Others, last-place}
+use Rattle.stored.proofs.Slots.{pair, valueSlot, levelSlot, parameters-width, formLength, stored-177, Others, last-place}
 
 -- ---- the numbers of a list of items
 map-append : {A B : Type 0} (f : A → B) (xs ys : List A) → map f (xs ++ ys) ≡ map f xs ++ map f ys
@@ -91,7 +91,7 @@ pub scalars-none : (r : Record) (o : List ℕ) → Scalars r 0 o o
 unfolding pack
 scalars-none r o = refl
 
-pub scalars-more : (r : Record) (k n : ℕ) (s : Slot) (o y z : List ℕ) → k < 8 → n ≡ getD (numbersOf scalarItems r) k 0 → s ≡ getD scalarSlots k noSlot → Scalars r k o y
+pub scalars-more : (r : Record) (k n : ℕ) (s : Slot) (o y z : List ℕ) → k < length scalarItems → n ≡ getD (numbersOf scalarItems r) k 0 → s ≡ getD scalarSlots k noSlot → Scalars r k o y
     → z ≡ stored s n y → Scalars r (k + 1) o z
 scalars-more r k n s o y z h e i q p =
     p ∙ (ap (λ (m : ℕ). stored s m y) e ∙
@@ -99,10 +99,10 @@ scalars-more r k n s o y z h e i q p =
     (store-next headerWidth scalarItems (numbersOf scalarItems r) k o y h (numbers-length scalarItems r) q ∙
     ap (λ (j : ℕ). sets o headerWidth (pack (take j scalarItems) (take j (numbersOf scalarItems r)))) (sym (add-one k)))))
 
-pub scalars-all : (r : Record) (k : ℕ) (o z : List ℕ) → k ≤ 8 → 8 ≤ k → Scalars r k o z → z ≡ sets o headerWidth (packed scalarItems r)
+pub scalars-all : (r : Record) (k : ℕ) (o z : List ℕ) → k ≤ length scalarItems → length scalarItems ≤ k → Scalars r k o z → z ≡ sets o headerWidth (packed scalarItems r)
 unfolding numbersOf
 scalars-all r k o z l h e =
-    let q : k ≡ 8 = omega arith in e ∙ ap (λ (j : ℕ). sets o headerWidth (pack (take j scalarItems) (take j (numbersOf scalarItems r)))) q
+    let q : k ≡ length scalarItems = omega arith in e ∙ ap (λ (j : ℕ). sets o headerWidth (pack (take j scalarItems) (take j (numbersOf scalarItems r)))) q
 
 -- ---- the parameters'
 abbrev pub Parameters : Record → ℕ → List ℕ → List ℕ → Type 0
@@ -138,11 +138,11 @@ pub parameters-all : (r : Record) (i : ℕ) (o z : List ℕ) → i ≤ parameter
 parameters-all r i o z l h e = let q : i ≡ parameterCount = omega arith in e ∙ ap (λ (j : ℕ). sets o parametersAt (packed (parameterItems j) r)) q
 
 -- ---- the header
-module _ (o ys : List ℕ) (room : 3 ≤ length o) (filled : ys ≡ bigEndian (length (take 2 (drop 1 (set o 0 1)))) 177) where
+module _ (o ys : List ℕ) (room : 3 ≤ length o) (filled : ys ≡ bigEndian (length (take 2 (drop 1 (set o 0 1)))) formLength) where
   pub header-put : putMid 1 2 (set o 0 1) ys ≡ sets o 0 headerBytes
   header-put =
       let l = length-set o 0 1 in
-      part-filled 1 2 177 (set o 0 1) ys (omega arith) filled ∙ ap (λ (n : ℕ). sets (set o 0 1) 1 (bigEndian 2 n)) (sym stored-177)
+      part-filled 1 2 formLength (set o 0 1) ys (omega arith) filled ∙ ap (λ (n : ℕ). sets (set o 0 1) 1 (bigEndian 2 n)) (sym stored-177)
 
   pub header-same : length (putMid 1 2 (set o 0 1) ys) ≡ length o
   header-same = ap length header-put ∙ length-sets o 0 headerBytes
@@ -160,11 +160,11 @@ module _ (r : Record) (o : List ℕ) (b : Bool) (v : b ≡ valid r) where
   unfolding writeOf
   write-invalid n = simp (sym v ∙ not-true b n)
 
-  pub write-short : not b ≡ false → length o < 177 → (K 6, o) ≡ writeOf r o
+  pub write-short : not b ≡ false → length o < formLength → (K 6, o) ≡ writeOf r o
   unfolding writeOf
-  write-short n h = simp (sym v ∙ not-false b n, stored-177, lt-leb 177 (length o) h)
+  write-short n h = simp (sym v ∙ not-false b n, stored-177, lt-leb formLength (length o) h)
 
-  pub write-whole : (x y z : List ℕ) → not b ≡ false → 177 ≤ length o → x ≡ sets o 0 headerBytes → y ≡ sets x headerWidth (packed scalarItems r)
+  pub write-whole : (x y z : List ℕ) → not b ≡ false → formLength ≤ length o → x ≡ sets o 0 headerBytes → y ≡ sets x headerWidth (packed scalarItems r)
       → z ≡ sets y parametersAt (packed (parameterItems parameterCount) r) → (done, z) ≡ writeOf r o
   unfolding writeOf storedForm
   write-whole x y z n h ex ey ez =
@@ -178,7 +178,7 @@ module _ (r : Record) (o : List ℕ) (b : Bool) (v : b ≡ valid r) where
       append-assoc headerBytes (packed scalarItems r) (packed (parameterItems parameterCount) r) ∙
       ap (λ (t : List ℕ). headerBytes ++ t) (sym (packed-append scalarItems (parameterItems parameterCount) r)) in
       let z₂ : z ≡ over (storedForm r) o = z₁ ∙ (ap (sets o 0) whole ∙ sets-over (storedForm r) o (omega (arith, form-length r, stored-177))) in
-      ap (λ (t : List ℕ). (done, t)) z₂ ∙ simp (sym v ∙ not-false b n, stored-177, le-leb 177 (length o) h)
+      ap (λ (t : List ℕ). (done, t)) z₂ ∙ simp (sym v ∙ not-false b n, stored-177, le-leb formLength (length o) h)
 
 -- ---- the number at a place, as the code gives it
 abbrev pub scalarNumbers : Record → List ℕ
@@ -193,5 +193,5 @@ number-here j r k n e q = q ∙ ap (λ (i : ℕ). getD (scalarNumbers r) i 0) (s
 pub number-there : (j : ℕ) (r : Record) (k n m : ℕ) → k ≡ j → n ≡ m → m ≡ getD (scalarNumbers r) j 0 → n ≡ getD (numbersOf scalarItems r) k 0
 number-there j r k n m e p q = number-here j r k n e (p ∙ q)
 
-pub number-last : (r : Record) (k n : ℕ) → Others k → k < 8 → n ≡ getD (scalarNumbers r) 7 0 → n ≡ getD (numbersOf scalarItems r) k 0
+pub number-last : (r : Record) (k n : ℕ) → Others k → k < length scalarItems → n ≡ getD (scalarNumbers r) 7 0 → n ≡ getD (numbersOf scalarItems r) k 0
 number-last r k n o h q = number-here 7 r k n (last-place k o h) q

@@ -6,7 +6,8 @@ use lib.Dec.{eqb}
 use lib.ListN.{length}
 use Rattle.base.specs.Test.{pick}
 use Rattle.state.specs.declared.Record.{Record}
-use Rattle.state.specs.Parameter.{parameterCount}
+use Rattle.state.specs.declared.Range.{Range}
+use Rattle.state.specs.Parameter.{range, parameterCount}
 use Rattle.state.specs.Field.{Field, address, access, phase, keypad, flow, changed, reset, powerfail, recipe, preset, raw, number, value, level, get, put, fieldRange}
 use Rattle.stored.specs.declared.Slot.{Slot}
 
@@ -48,13 +49,13 @@ abbrev pub totalWidth : List Item → ℕ
 totalWidth [] = 0
 totalWidth (x ∷ xs) = itemWidth x + totalWidth xs
 
-abbrev pub slotOf : ℕ → ℕ → ℕ → ℕ → Slot
-slotOf a w l h = record { at = a; width = w; low = l; high = h }
+abbrev pub slotOf : ℕ → ℕ → Range → Slot
+slotOf a w g = record { at = a; width = w; low = g .low; high = g .high }
 
 -- the slot of an item: its place, its width, and the range of the number in it
 abbrev pub itemSlot : ℕ → Item → Slot
-itemSlot a (alone w f) = slotOf a w (fieldRange f .low) (fieldRange f .high)
-itemSlot a (together fs) = slotOf a 1 0 (2 ^ length fs - 1)
+itemSlot a (alone w f) = slotOf a w (fieldRange f)
+itemSlot a (together fs) = slotOf a 1 (range 0 (2 ^ length fs - 1))
 
 unfoldable pub slotsFrom : ℕ → List Item → List Slot
 slotsFrom at [] = []
@@ -69,7 +70,7 @@ parametersAt = headerWidth + totalWidth scalarItems
 
 -- beyond the last place there is an empty slot
 abbrev pub noSlot : Slot
-noSlot = slotOf 0 0 0 0
+noSlot = slotOf 0 0 (range 0 0)
 
 -- ---- a record as its stored numbers
 abbrev pub bits : Record → List Field → ℕ

@@ -1,7 +1,15 @@
 // The stored form of a record.
 use base::wide;
+use state::ACCESS_RANGE;
+use state::ADDRESS_RANGE;
+use state::LEVEL_RANGE;
+use state::NUMBER_RANGE;
 use state::PARAMETERS;
+use state::PHASE_RANGE;
+use state::PRESET_RANGE;
 use state::Phase;
+use state::RAW_RANGE;
+use state::RECIPE_RANGE;
 use state::RECIPES;
 use state::Range;
 use state::Record;
@@ -38,6 +46,9 @@ const RAW: usize = 6;
 const NUMBER: usize = 7;
 
 const SCALARS: usize = 8;
+
+// A bit for each flag.
+const FLAGS_RANGE: Range = Range { low: 0, high: 31 };
 
 // Where the parameters' numbers begin.
 const PARAMETERS_AT: usize = HEADER + 14;
@@ -105,32 +116,32 @@ pub enum Written {
 
 // ---- the layout: the slots that reading and writing go by
 
-fn slot_of(at: usize, width: usize, low: u32, high: u32) -> Slot
-    ensures { λ s. ⌜ s ≡ slotOf at width low high ⌝ }
+fn slot_of(at: usize, width: usize, range: Range) -> Slot
+    ensures { λ s. ⌜ s ≡ slotOf at width range ⌝ }
 {
     Slot {
         at: at,
         width: width,
-        low: low,
-        high: high,
+        low: range.low,
+        high: range.high,
     }
 }
 
 // The slot of the number at a place before the parameters'.
 fn scalar_slot(place: usize) -> Slot
-    requires { ⌜ place < 8 ⌝ }
+    requires { ⌜ place < length scalarItems ⌝ }
     ensures { λ s. ⌜ s ≡ getD scalarSlots place noSlot ⌝ }
 {
     match place {
-        ADDRESS => slot_of(3, 1, 1, 99),
-        ACCESS => slot_of(4, 1, 0, 3),
-        PHASE => slot_of(5, 1, 0, 4),
-        FLAGS => slot_of(6, 1, 0, 31),
-        RECIPE => slot_of(7, 1, 1, RECIPES as u32),
-        PRESET => slot_of(8, 3, 0, 999999),
-        RAW => slot_of(11, 4, 0, 99999999),
+        ADDRESS => slot_of(3, 1, ADDRESS_RANGE),
+        ACCESS => slot_of(4, 1, ACCESS_RANGE),
+        PHASE => slot_of(5, 1, PHASE_RANGE),
+        FLAGS => slot_of(6, 1, FLAGS_RANGE),
+        RECIPE => slot_of(7, 1, RECIPE_RANGE),
+        PRESET => slot_of(8, 3, PRESET_RANGE),
+        RAW => slot_of(11, 4, RAW_RANGE),
         // NUMBER
-        _ => slot_of(15, 2, 1, 9999),
+        _ => slot_of(15, 2, NUMBER_RANGE),
     }
 }
 
@@ -139,14 +150,14 @@ fn value_slot(i: usize, range: Range) -> Slot
     requires { ⌜ (i < parameterCount) × (range ≡ rangeAt i) ⌝ }
     ensures { λ s. ⌜ s ≡ itemSlot (parametersAt + 5 * i) (alone 4 (value i)) ⌝ }
 {
-    slot_of(PARAMETERS_AT + 5 * i, 4, range.low, range.high)
+    slot_of(PARAMETERS_AT + 5 * i, 4, range)
 }
 
 fn level_slot(i: usize) -> Slot
     requires { ⌜ i < parameterCount ⌝ }
     ensures { λ s. ⌜ s ≡ itemSlot (parametersAt + 5 * i + 4) (alone 1 (level i)) ⌝ }
 {
-    slot_of(PARAMETERS_AT + 5 * i + 4, 1, 0, 3)
+    slot_of(PARAMETERS_AT + 5 * i + 4, 1, LEVEL_RANGE)
 }
 
 // ---- numbers as bytes, high byte first
@@ -220,7 +231,7 @@ fn put_number(n: u32, slot: Slot, out: &mut [u8])
 
 // The number at a place before the parameters'.
 fn scalar(r: Record, place: usize) -> u32
-    requires { ⌜ place < 8 ⌝ }
+    requires { ⌜ place < length scalarItems ⌝ }
     ensures { λ n. ⌜ n ≡ getD (numbersOf scalarItems r) place 0 ⌝ }
 {
     let phase = r.phase;
@@ -441,21 +452,26 @@ fn read_numbers(s: &[u8]) -> Reading
     };
     let values = [0u32; PARAMETERS];
     let levels = [0u8; PARAMETERS];
+    let address = address as u8;
+    let access = access as u8;
+    let phase = phase_of(phase);
+    let recipe = recipe as u8;
+    let number = number as u16;
     read_parameters(
         s,
         Record {
-            address: address as u8,
-            access: access as u8,
-            phase: phase_of(phase),
+            address: address,
+            access: access,
+            phase: phase,
             keypad: flags % 2 == 1,
             flow: flags / 2 % 2 == 1,
-            changed: flags / 4 % 2 == 1,
-            reset: flags / 8 % 2 == 1,
-            powerfail: flags / 16 % 2 == 1,
-            recipe: recipe as u8,
+            changed: flags / 2 / 2 % 2 == 1,
+            reset: flags / 2 / 2 / 2 % 2 == 1,
+            powerfail: flags / 2 / 2 / 2 / 2 % 2 == 1,
+            recipe: recipe,
             preset: preset,
             raw: raw,
-            number: number as u16,
+            number: number,
             values: values,
             levels: levels,
         },

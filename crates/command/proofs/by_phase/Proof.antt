@@ -1,21 +1,32 @@
--- `command::by_phase` meets its contract: the phase is among those that the guard lets pass, or not. Assumes nothing.
-use Rattle.command.proofs.Deciding.{deciding}
+-- `command::by_phase` meets its contract: the third guard. Assumes nothing.
+use Rattle.command.proofs.Serving.{phase-deciding}
 use borrow.Author.Needs.{needs}
 use Rattle.command.proofs.by_phase.Statement.{statement}
 use Rattle.command.proofs.by_phase.Tie as tie
 
-phase-number-requires : tie.Need-phase-number-requires
-phase-number-requires c κs = search needs
-
-is-among-requires : tie.Need-is-among-requires
-is-among-requires c κs = search needs
-
-refused-unless-requires : tie.Need-refused-unless-requires
-refused-unless-requires c κs = search needs
-
-returns : tie.Need-returns
-returns c = search deciding
+returns-5 : tie.Need-returns-5
+returns-5 c = search (phase-deciding, needs)
 
 pub by-phase-spec : {M : Type 1} → statement M
 by-phase-spec =
-    tie.close (tie.spec phase-number-requires is-among-requires refused-unless-requires returns)
+    tie.close
+    (tie.spec
+    (λ c κs. search needs)
+    (λ c. search needs)
+    (λ c. search needs)
+    (λ c. search needs)
+    (λ c κs. search needs)
+    (λ c. search needs)
+    (λ c. search needs)
+    (λ c κs. search needs)
+    (λ c. search needs)
+    (λ c. search needs)
+    (λ c κs. search needs)
+    (λ c. search needs)
+    (λ c. search needs)
+    (λ c κs. search needs)
+    (λ c. search (phase-deciding, needs))
+    (λ c. search (phase-deciding, needs))
+    (λ c. search (phase-deciding, needs))
+    (λ c. search (phase-deciding, needs))
+    returns-5)

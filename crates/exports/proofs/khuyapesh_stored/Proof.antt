@@ -4,35 +4,14 @@ use borrow.Author.Needs.{needs}
 use Rattle.exports.proofs.khuyapesh_stored.Statement.{statement}
 use Rattle.exports.proofs.khuyapesh_stored.Tie as tie
 
-add-result : tie.Need-add-result
-add-result c = search needs
-
-returns : tie.Need-returns
-returns c = search storing
-
-read-requires : tie.Need-read-requires
-read-requires c κs = search needs
-
-write-requires : tie.Need-write-requires
-write-requires c κs = search needs
-
-stored-answer-requires : tie.Need-stored-answer-requires
-stored-answer-requires c κs = search needs
-
-same-length : tie.Need-same-length
-same-length c = search needs
-
-returns-2 : tie.Need-returns-2
-returns-2 c = search storing
-
 pub khuyapesh-stored-spec : {M : Type 1} → statement M
 khuyapesh-stored-spec =
     tie.close
     (tie.spec
-    add-result
-    returns
-    read-requires
-    write-requires
-    stored-answer-requires
-    same-length
-    returns-2)
+    (λ c. search needs)
+    (λ c. search storing)
+    (λ c κs. search needs)
+    (λ c κs. search needs)
+    (λ c κs. search needs)
+    (λ c. search needs)
+    (λ c. search storing))

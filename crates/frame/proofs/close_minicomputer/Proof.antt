@@ -7,44 +7,17 @@ use Rattle.frame.proofs.Steps.{closed-minicomputer}
 use Rattle.frame.proofs.close_minicomputer.Statement.{statement}
 use Rattle.frame.proofs.close_minicomputer.Tie as tie
 
-slice-write-out : tie.Need-slice-write-out
-slice-write-out c = search needs
-
-add-out : tie.Need-add-out
-add-out c = search needs
-
 slice-write-out-2 : tie.Need-slice-write-out-2
 slice-write-out-2 c = simp length-set (omega arith)
-
-add-end : tie.Need-add-end
-add-end c = search needs
-
-sub-check : tie.Need-sub-check
-sub-check c = search needs
-
-part-check-start : tie.Need-part-check-start
-part-check-start c = search needs
 
 part-check-end : tie.Need-part-check-end
 part-check-end c = simp length-set (omega arith)
 
-check-requires : tie.Need-check-requires
-check-requires c κs = search needs
-
-add-out-2 : tie.Need-add-out-2
-add-out-2 c = search needs
-
 slice-write-out-3 : tie.Need-slice-write-out-3
 slice-write-out-3 c = simp length-set (omega arith)
 
-add-out-3 : tie.Need-add-out-3
-add-out-3 c = search needs
-
 slice-write-out-4 : tie.Need-slice-write-out-4
 slice-write-out-4 c = simp length-set (omega arith)
-
-same-length : tie.Need-same-length
-same-length c = search needs
 
 returns : tie.Need-returns
 returns c = search closed-minicomputer
@@ -53,17 +26,17 @@ pub close-minicomputer-spec : {M : Type 1} → statement M
 close-minicomputer-spec =
     tie.close
     (tie.spec
-    slice-write-out
-    add-out
+    (λ c. search needs)
+    (λ c. search needs)
     slice-write-out-2
-    add-end
-    sub-check
-    part-check-start
+    (λ c. search needs)
+    (λ c. search needs)
+    (λ c. search needs)
     part-check-end
-    check-requires
-    add-out-2
+    (λ c κs. search needs)
+    (λ c. search needs)
     slice-write-out-3
-    add-out-3
+    (λ c. search needs)
     slice-write-out-4
-    same-length
+    (λ c. search needs)
     returns)

@@ -5,12 +5,6 @@ use Rattle.frame.specs.Frame.{withinLimits}
 use Rattle.frame.proofs.limits.Statement.{statement}
 use Rattle.frame.proofs.limits.Tie as tie
 
-enum-told : tie.Need-enum-told
-enum-told c = search needs
-
-enum-told-2 : tie.Need-enum-told-2
-enum-told-2 c = search needs
-
 returns : tie.Need-returns
 unfolding withinLimits
 returns c = simp (c .before .enum-told .given .1, le-leb _ _ (c .if1 .taken))
@@ -28,4 +22,4 @@ unfolding withinLimits
 returns-4 c = simp (c .before .enum-told2 .given .1, lt-leb _ _ (c .if2 .left))
 
 pub limits-spec : {M : Type 1} → statement M
-limits-spec = tie.close (tie.spec enum-told enum-told-2 returns returns-2 returns-3 returns-4)
+limits-spec = tie.close (tie.spec (λ c. search needs) (λ c. search needs) returns returns-2 returns-3 returns-4)

@@ -6,18 +6,6 @@ use borrow.Author.Needs.{needs}
 use Rattle.judging.proofs.judge.Statement.{statement}
 use Rattle.judging.proofs.judge.Tie as tie
 
-read-recording-requires : tie.Need-read-recording-requires
-read-recording-requires c κs = search needs
-
-enum-known-refusal : tie.Need-enum-known-refusal
-enum-known-refusal c = search needs
-
-enum-known-address : tie.Need-enum-known-address
-enum-known-address c = search needs
-
-judge-exchanges-requires : tie.Need-judge-exchanges-requires
-judge-exchanges-requires c κs = search read-counted
-
 returns : tie.Need-returns
 returns c = right-so _ _ (search judged-refused)
 
@@ -28,9 +16,9 @@ pub judge-spec : {M : Type 1} → statement M
 judge-spec =
     tie.close
     (tie.spec
-    read-recording-requires
-    enum-known-refusal
-    enum-known-address
-    judge-exchanges-requires
+    (λ c κs. search needs)
+    (λ c. search needs)
+    (λ c. search needs)
+    (λ c κs. search read-counted)
     returns
     returns-2)

@@ -13,59 +13,8 @@ Inv-loop s address access count k₀ at₀ passed₀ k at passed = Judged s addr
 abbrev μ-loop : tie.MeasureT-loop
 μ-loop s address access count k₀ at₀ passed₀ k at passed = length s - at
 
-begin-requires : tie.Need-begin-requires Inv-loop μ-loop
-begin-requires c κs = search needs
-
-loop-holds : tie.Need-loop-holds Inv-loop μ-loop
-loop-holds c = search judged-none
-
-exchange-at-requires : tie.Need-exchange-at-requires Inv-loop μ-loop
-exchange-at-requires c κs = search needs
-
-enum-told : tie.Need-enum-told Inv-loop μ-loop
-enum-told c = search needs
-
-returns : tie.Need-returns Inv-loop μ-loop
-returns c = search fits-all
-
-enum-told-2 : tie.Need-enum-told-2 Inv-loop μ-loop
-enum-told-2 c = search needs
-
-returns-2 : tie.Need-returns-2 Inv-loop μ-loop
-returns-2 c = search no-cut
-
-enum-known-spans : tie.Need-enum-known-spans Inv-loop μ-loop
-enum-known-spans c = search needs
-
-sub-learn : tie.Need-sub-learn Inv-loop μ-loop
-sub-learn c = search (spans-inside, needs)
-
-part-learn-start : tie.Need-part-learn-start Inv-loop μ-loop
-part-learn-start c = search (spans-inside, needs)
-
-part-learn-end : tie.Need-part-learn-end Inv-loop μ-loop
-part-learn-end c = search (spans-inside, needs)
-
-sub-learn-2 : tie.Need-sub-learn-2 Inv-loop μ-loop
-sub-learn-2 c = search (spans-inside, needs)
-
-part-learn-start-2 : tie.Need-part-learn-start-2 Inv-loop μ-loop
-part-learn-start-2 c = search (spans-inside, needs)
-
-part-learn-end-2 : tie.Need-part-learn-end-2 Inv-loop μ-loop
-part-learn-end-2 c = search (spans-inside, needs)
-
-learn-requires : tie.Need-learn-requires Inv-loop μ-loop
-learn-requires c κs = search needs
-
-add-passed : tie.Need-add-passed Inv-loop μ-loop
-add-passed c = search (one-fits, needs)
-
 returns-3 : tie.Need-returns-3 Inv-loop μ-loop
 returns-3 c = search refuted-here
-
-loop-less : tie.Need-loop-less Inv-loop μ-loop
-loop-less c = search one-nearer
 
 loop-again : tie.Need-loop-again Inv-loop μ-loop
 loop-again c = search one-passed
@@ -76,22 +25,22 @@ judge-exchanges-spec =
     (tie.spec
     Inv-loop
     μ-loop
-    begin-requires
-    loop-holds
-    exchange-at-requires
-    enum-told
-    returns
-    enum-told-2
-    returns-2
-    enum-known-spans
-    sub-learn
-    part-learn-start
-    part-learn-end
-    sub-learn-2
-    part-learn-start-2
-    part-learn-end-2
-    learn-requires
-    add-passed
+    (λ c κs. search needs)
+    (λ c. search judged-none)
+    (λ c κs. search needs)
+    (λ c. search needs)
+    (λ c. search fits-all)
+    (λ c. search needs)
+    (λ c. search no-cut)
+    (λ c. search needs)
+    (λ c. search (spans-inside, needs))
+    (λ c. search (spans-inside, needs))
+    (λ c. search (spans-inside, needs))
+    (λ c. search (spans-inside, needs))
+    (λ c. search (spans-inside, needs))
+    (λ c. search (spans-inside, needs))
+    (λ c κs. search needs)
+    (λ c. search (one-fits, needs))
     returns-3
-    loop-less
+    (λ c. search one-nearer)
     loop-again)

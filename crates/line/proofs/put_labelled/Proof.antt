@@ -1,20 +1,11 @@
 -- `line::put_labelled` meets its contract: the word, and the number behind it, are joined. Assumes nothing.
 use borrow.Author.Needs.{needs}
-use Rattle.reply.proofs.Laws.{joined}
+use Rattle.text.proofs.Writing.{both-written, decimal-high}
 use Rattle.line.proofs.put_labelled.Statement.{statement}
 use Rattle.line.proofs.put_labelled.Tie as tie
 
-put-word-requires : tie.Need-put-word-requires
-put-word-requires c κs = search needs
-
-put-number-requires : tie.Need-put-number-requires
-put-number-requires c κs = search needs
-
-same-length : tie.Need-same-length
-same-length c = search needs
-
 returns : tie.Need-returns
-returns c = joined _ _ _ _ _ _ _ _ (c .before .before .before .before .before .before .put-word .ensures) (c .before .before .put-number .ensures)
+returns c = both-written _ _ _ _ _ _ _ _ _ (decimal-high _) (search needs) (c .before .before .before .before .before .before .put-word .ensures) (c .before .before .put-decimal .ensures)
 
 pub put-labelled-spec : {M : Type 1} → statement M
-put-labelled-spec = tie.close (tie.spec put-word-requires put-number-requires same-length returns)
+put-labelled-spec = tie.close (tie.spec (λ c κs. search needs) (λ c κs. search needs) (λ c. search needs) returns)

@@ -16,30 +16,6 @@ abbrev μ-loop : tie.MeasureT-loop
 loop-holds : tie.Need-loop-holds Inv-loop μ-loop
 loop-holds c = counted-none _ (search needs)
 
-exchange-at-requires : tie.Need-exchange-at-requires Inv-loop μ-loop
-exchange-at-requires c κs = search needs
-
-enum-told : tie.Need-enum-told Inv-loop μ-loop
-enum-told c = search needs
-
-returns : tie.Need-returns Inv-loop μ-loop
-returns c = search counted-all
-
-enum-told-2 : tie.Need-enum-told-2 Inv-loop μ-loop
-enum-told-2 c = search needs
-
-returns-2 : tie.Need-returns-2 Inv-loop μ-loop
-returns-2 c = search counted-cut
-
-enum-known-spans : tie.Need-enum-known-spans Inv-loop μ-loop
-enum-known-spans c = search needs
-
-add-n : tie.Need-add-n Inv-loop μ-loop
-add-n c = search (one-fits, needs)
-
-loop-less : tie.Need-loop-less Inv-loop μ-loop
-loop-less c = search one-nearer
-
 loop-again : tie.Need-loop-again Inv-loop μ-loop
 loop-again c = search counted-one
 
@@ -50,12 +26,12 @@ count-exchanges-spec =
     Inv-loop
     μ-loop
     loop-holds
-    exchange-at-requires
-    enum-told
-    returns
-    enum-told-2
-    returns-2
-    enum-known-spans
-    add-n
-    loop-less
+    (λ c κs. search needs)
+    (λ c. search needs)
+    (λ c. search counted-all)
+    (λ c. search needs)
+    (λ c. search counted-cut)
+    (λ c. search needs)
+    (λ c. search (one-fits, needs))
+    (λ c. search one-nearer)
     loop-again)

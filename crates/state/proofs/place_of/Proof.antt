@@ -5,60 +5,6 @@ use borrow.Author.Needs.{needs}
 use Rattle.state.proofs.place_of.Statement.{statement}
 use Rattle.state.proofs.place_of.Tie as tie
 
-cast-t5 : tie.Need-cast-t5
-cast-t5 c = search needs
-
-cast-t7 : tie.Need-cast-t7
-cast-t7 c = search needs
-
-add-t8 : tie.Need-add-t8
-add-t8 c = search needs
-
-cast-t10 : tie.Need-cast-t10
-cast-t10 c = search needs
-
-add-t11 : tie.Need-add-t11
-add-t11 c = search needs
-
-cast-t13 : tie.Need-cast-t13
-cast-t13 c = search needs
-
-add-t14 : tie.Need-add-t14
-add-t14 c = search needs
-
-cast-t16 : tie.Need-cast-t16
-cast-t16 c = search needs
-
-add-t17 : tie.Need-add-t17
-add-t17 c = search needs
-
-cast-t19 : tie.Need-cast-t19
-cast-t19 c = search needs
-
-add-t20 : tie.Need-add-t20
-add-t20 c = search needs
-
-cast-t22 : tie.Need-cast-t22
-cast-t22 c = search needs
-
-add-t23 : tie.Need-add-t23
-add-t23 c = search needs
-
-cast-t25 : tie.Need-cast-t25
-cast-t25 c = search needs
-
-add-t26 : tie.Need-add-t26
-add-t26 c = search needs
-
-cast-t28 : tie.Need-cast-t28
-cast-t28 c = search needs
-
-mul-t29 : tie.Need-mul-t29
-mul-t29 c = search needs
-
-add-t30 : tie.Need-add-t30
-add-t30 c = search needs
-
 returns : tie.Need-returns
 returns c = place-given-recipe _ 1 _ (omega arith) (omega arith) (omega arith) (omega arith) (omega arith)
 
@@ -120,24 +66,24 @@ pub place-of-spec : {M : Type 1} → statement M
 place-of-spec =
     tie.close
     (tie.spec
-    cast-t5
-    cast-t7
-    add-t8
-    cast-t10
-    add-t11
-    cast-t13
-    add-t14
-    cast-t16
-    add-t17
-    cast-t19
-    add-t20
-    cast-t22
-    add-t23
-    cast-t25
-    add-t26
-    cast-t28
-    mul-t29
-    add-t30
+    (λ c. search needs)
+    (λ c. search needs)
+    (λ c. search needs)
+    (λ c. search needs)
+    (λ c. search needs)
+    (λ c. search needs)
+    (λ c. search needs)
+    (λ c. search needs)
+    (λ c. search needs)
+    (λ c. search needs)
+    (λ c. search needs)
+    (λ c. search needs)
+    (λ c. search needs)
+    (λ c. search needs)
+    (λ c. search needs)
+    (λ c. search needs)
+    (λ c. search needs)
+    (λ c. search needs)
     returns
     returns-2
     returns-3

@@ -3,14 +3,8 @@ use borrow.Author.Needs.{needs}
 use Rattle.state.proofs.value_valid.Statement.{statement}
 use Rattle.state.proofs.value_valid.Tie as tie
 
-range-at-requires : tie.Need-range-at-requires
-range-at-requires c κs = search needs
-
-is-between-requires : tie.Need-is-between-requires
-is-between-requires c κs = search needs
-
 returns : tie.Need-returns
 returns c = simp (← c .before .range-at .ensures, ← c .is-between .ensures)
 
 pub value-valid-spec : {M : Type 1} → statement M
-value-valid-spec = tie.close (tie.spec range-at-requires is-between-requires returns)
+value-valid-spec = tie.close (tie.spec (λ c κs. search needs) (λ c κs. search needs) returns)

@@ -4,6 +4,8 @@ use mathlib.Core.Path.{_≡_}
 use native.Mathlib.Omega.{arith}
 use Rattle.base.specs.Lists.{over}
 use Rattle.state.specs.Parameter.{parameterCount}
+use Rattle.state.specs.Field.{phaseOf, listed, recordFrom}
+use Rattle.stored.specs.Form.{lowRecord}
 use Rattle.stored.proofs.LowRecord.{lows, low-none, low-more, low-is}
 use borrow.Author.Needs.{needs}
 use Rattle.stored.proofs.low_record.Statement.{statement}
@@ -18,38 +20,21 @@ abbrev μ-loop : tie.MeasureT-loop
 loop-holds : tie.Need-loop-holds Inv-loop μ-loop
 loop-holds c = (omega arith, low-none _)
 
-range-at-requires : tie.Need-range-at-requires Inv-loop μ-loop
-range-at-requires c κs = search needs
-
-mul-values : tie.Need-mul-values Inv-loop μ-loop
-mul-values c = search needs
-
-array-write-values : tie.Need-array-write-values Inv-loop μ-loop
-array-write-values c = search needs
-
-add-i : tie.Need-add-i Inv-loop μ-loop
-add-i c = search needs
-
-loop-less : tie.Need-loop-less Inv-loop μ-loop
-loop-less c = search needs
-
 loop-again : tie.Need-loop-again Inv-loop μ-loop
 loop-again c = (omega arith, search (low-more, needs))
 
-returns : tie.Need-returns Inv-loop μ-loop
-returns c = search (low-is, needs)
-
 pub low-record-spec : {M : Type 1} → statement M
+unfolding lowRecord recordFrom phaseOf listed
 low-record-spec =
     tie.close
     (tie.spec
     Inv-loop
     μ-loop
     loop-holds
-    range-at-requires
-    mul-values
-    array-write-values
-    add-i
-    loop-less
+    (λ c κs. search needs)
+    (λ c. search needs)
+    (λ c. search needs)
+    (λ c. search needs)
+    (λ c. search needs)
     loop-again
-    returns)
+    (λ c. search (low-is, needs)))

@@ -19,26 +19,8 @@ loop-holds c = begun-none _
 mul-n : tie.Need-mul-n Inv-loop μ-loop
 mul-n c = omega (arith, begun-high (c .before .loop .inv) (c .loop-test .taken) (c .before .before .before .pre))
 
-shared-slice-read-wide : tie.Need-shared-slice-read-wide Inv-loop μ-loop
-shared-slice-read-wide c = search needs
-
-wide-requires : tie.Need-wide-requires Inv-loop μ-loop
-wide-requires c κs = search needs
-
 add-n : tie.Need-add-n Inv-loop μ-loop
 add-n c = omega (arith, begun-high (c .before .before .before .loop .inv) (c .before .before .loop-test .taken) (c .before .before .before .before .before .pre))
-
-add-i : tie.Need-add-i Inv-loop μ-loop
-add-i c = search needs
-
-loop-less : tie.Need-loop-less Inv-loop μ-loop
-loop-less c = search needs
-
-loop-again : tie.Need-loop-again Inv-loop μ-loop
-loop-again c = search begun-more
-
-returns : tie.Need-returns Inv-loop μ-loop
-returns c = search begun-all
 
 pub number-in-spec : {M : Type 1} → statement M
 number-in-spec =
@@ -48,10 +30,10 @@ number-in-spec =
     μ-loop
     loop-holds
     mul-n
-    shared-slice-read-wide
-    wide-requires
+    (λ c. search needs)
+    (λ c κs. search needs)
     add-n
-    add-i
-    loop-less
-    loop-again
-    returns)
+    (λ c. search needs)
+    (λ c. search needs)
+    (λ c. search begun-more)
+    (λ c. search begun-all))

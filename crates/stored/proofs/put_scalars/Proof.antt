@@ -3,6 +3,7 @@ use Prim.Native.Nat.{_-_, _≤_}
 use mathlib.Core.Path.{_≡_, refl}
 use native.Mathlib.Omega.{arith}
 use lib.ListN.{length}
+use Rattle.stored.specs.Layout.{scalarItems}
 use Rattle.stored.proofs.Writing.{Scalars, scalars-none, scalars-more, scalars-all}
 use Rattle.stored.proofs.Slots.{scalar-ends, stored-177}
 use borrow.Author.Needs.{needs}
@@ -10,37 +11,19 @@ use Rattle.stored.proofs.put_scalars.Statement.{statement}
 use Rattle.stored.proofs.put_scalars.Tie as tie
 
 abbrev Inv-loop : tie.InvT-loop
-Inv-loop r out₀ place₀ out place = (place ≤ 8) × ((length out ≡ length out₀) × Scalars r place out₀ out)
+Inv-loop r out₀ place₀ out place = (place ≤ length scalarItems) × ((length out ≡ length out₀) × Scalars r place out₀ out)
 
 abbrev μ-loop : tie.MeasureT-loop
-μ-loop r out₀ place₀ out place = 8 - place
+μ-loop r out₀ place₀ out place = length scalarItems - place
 
 loop-holds : tie.Need-loop-holds Inv-loop μ-loop
 loop-holds c = (omega arith, (refl, search scalars-none))
 
-scalar-requires : tie.Need-scalar-requires Inv-loop μ-loop
-scalar-requires c κs = search needs
-
-scalar-slot-requires : tie.Need-scalar-slot-requires Inv-loop μ-loop
-scalar-slot-requires c κs = search needs
-
 put-number-requires : tie.Need-put-number-requires Inv-loop μ-loop
 put-number-requires c κs = omega (arith, stored-177, scalar-ends _ _ (c .before .scalar-slot .ensures) (c .before .before .before .loop-test .taken))
 
-add-place : tie.Need-add-place Inv-loop μ-loop
-add-place c = search needs
-
-loop-less : tie.Need-loop-less Inv-loop μ-loop
-loop-less c = search needs
-
 loop-again : tie.Need-loop-again Inv-loop μ-loop
 loop-again c = (omega arith, (omega arith, search scalars-more))
-
-same-length : tie.Need-same-length Inv-loop μ-loop
-same-length c = search needs
-
-returns : tie.Need-returns Inv-loop μ-loop
-returns c = search scalars-all
 
 pub put-scalars-spec : {M : Type 1} → statement M
 put-scalars-spec =
@@ -49,11 +32,11 @@ put-scalars-spec =
     Inv-loop
     μ-loop
     loop-holds
-    scalar-requires
-    scalar-slot-requires
+    (λ c κs. search needs)
+    (λ c κs. search needs)
     put-number-requires
-    add-place
-    loop-less
+    (λ c. search needs)
+    (λ c. search needs)
     loop-again
-    same-length
-    returns)
+    (λ c. search needs)
+    (λ c. search scalars-all))

@@ -2,158 +2,67 @@
 -- stands five steps before the next one's. Assumes nothing.
 use mathlib.Core.Path.{refl}
 use native.Mathlib.Omega.{arith}
+use lib.ListN.{replicate}
+use Rattle.state.specs.Parameter.{parameterCount}
+use Rattle.state.specs.Field.{put, recordFrom}
+use Rattle.stored.specs.Layout.{putBits, putAll}
+use Rattle.stored.specs.Form.{lowRecord}
 use Rattle.stored.proofs.Slots.{scalar-ends, scalar-short, stored-177}
 use Rattle.stored.proofs.Taking.{body-outside, is-byte, is-two-bytes, body-inside}
 use borrow.Author.Needs.{needs}
 use Rattle.stored.proofs.read_numbers.Statement.{statement}
 use Rattle.stored.proofs.read_numbers.Tie as tie
 
-scalar-slot-requires : tie.Need-scalar-slot-requires
-scalar-slot-requires c κs = search needs
-
 read-number-requires : tie.Need-read-number-requires
 read-number-requires c κs = (omega (arith, stored-177, c .before .before .pre, scalar-ends _ 0 (c .scalar-slot .ensures) (omega arith)), scalar-short _ 0 (c .scalar-slot .ensures) (omega arith))
-
-enum-known-address : tie.Need-enum-known-address
-enum-known-address c = search needs
-
-enum-told : tie.Need-enum-told
-enum-told c = search needs
-
-refused-requires : tie.Need-refused-requires
-refused-requires c κs = search needs
 
 returns : tie.Need-returns
 returns c = body-outside _ 0 _ _ _ _ (omega arith) (c .before .before .before .before .scalar-slot .ensures) (c .before .before .before .read-number .ensures) (c .before .enum-told .given .1) (c .refused .ensures .0) (c .refused .ensures .1)
 
-scalar-slot-requires-2 : tie.Need-scalar-slot-requires-2
-scalar-slot-requires-2 c κs = search needs
-
 read-number-requires-2 : tie.Need-read-number-requires-2
 read-number-requires-2 c κs = (omega (arith, stored-177, c .before .before .before .before .before .before .before .pre, scalar-ends _ 1 (c .scalar-slot2 .ensures) (omega arith)), scalar-short _ 1 (c .scalar-slot2 .ensures) (omega arith))
-
-enum-known-access : tie.Need-enum-known-access
-enum-known-access c = search needs
-
-enum-told-2 : tie.Need-enum-told-2
-enum-told-2 c = search needs
-
-refused-requires-2 : tie.Need-refused-requires-2
-refused-requires-2 c κs = search needs
 
 returns-2 : tie.Need-returns-2
 returns-2 c = body-outside _ 1 _ _ _ _ (omega arith) (c .before .before .before .before .scalar-slot2 .ensures) (c .before .before .before .read-number2 .ensures) (c .before .enum-told2 .given .1) (c .refused2 .ensures .0) (c .refused2 .ensures .1)
 
-scalar-slot-requires-3 : tie.Need-scalar-slot-requires-3
-scalar-slot-requires-3 c κs = search needs
-
 read-number-requires-3 : tie.Need-read-number-requires-3
 read-number-requires-3 c κs = (omega (arith, stored-177, c .before .before .before .before .before .before .before .before .before .before .before .before .pre, scalar-ends _ 2 (c .scalar-slot3 .ensures) (omega arith)), scalar-short _ 2 (c .scalar-slot3 .ensures) (omega arith))
-
-enum-known-phase : tie.Need-enum-known-phase
-enum-known-phase c = search needs
-
-enum-told-3 : tie.Need-enum-told-3
-enum-told-3 c = search needs
-
-refused-requires-3 : tie.Need-refused-requires-3
-refused-requires-3 c κs = search needs
 
 returns-3 : tie.Need-returns-3
 returns-3 c = body-outside _ 2 _ _ _ _ (omega arith) (c .before .before .before .before .scalar-slot3 .ensures) (c .before .before .before .read-number3 .ensures) (c .before .enum-told3 .given .1) (c .refused3 .ensures .0) (c .refused3 .ensures .1)
 
-scalar-slot-requires-4 : tie.Need-scalar-slot-requires-4
-scalar-slot-requires-4 c κs = search needs
-
 read-number-requires-4 : tie.Need-read-number-requires-4
 read-number-requires-4 c κs = (omega (arith, stored-177, c .before .before .before .before .before .before .before .before .before .before .before .before .before .before .before .before .before .pre, scalar-ends _ 3 (c .scalar-slot4 .ensures) (omega arith)), scalar-short _ 3 (c .scalar-slot4 .ensures) (omega arith))
-
-enum-known-flags : tie.Need-enum-known-flags
-enum-known-flags c = search needs
-
-enum-told-4 : tie.Need-enum-told-4
-enum-told-4 c = search needs
-
-refused-requires-4 : tie.Need-refused-requires-4
-refused-requires-4 c κs = search needs
 
 returns-4 : tie.Need-returns-4
 returns-4 c = body-outside _ 3 _ _ _ _ (omega arith) (c .before .before .before .before .scalar-slot4 .ensures) (c .before .before .before .read-number4 .ensures) (c .before .enum-told4 .given .1) (c .refused4 .ensures .0) (c .refused4 .ensures .1)
 
-scalar-slot-requires-5 : tie.Need-scalar-slot-requires-5
-scalar-slot-requires-5 c κs = search needs
-
 read-number-requires-5 : tie.Need-read-number-requires-5
 read-number-requires-5 c κs = (omega (arith, stored-177, c .before .before .before .before .before .before .before .before .before .before .before .before .before .before .before .before .before .before .before .before .before .before .pre, scalar-ends _ 4 (c .scalar-slot5 .ensures) (omega arith)), scalar-short _ 4 (c .scalar-slot5 .ensures) (omega arith))
-
-enum-known-recipe : tie.Need-enum-known-recipe
-enum-known-recipe c = search needs
-
-enum-told-5 : tie.Need-enum-told-5
-enum-told-5 c = search needs
-
-refused-requires-5 : tie.Need-refused-requires-5
-refused-requires-5 c κs = search needs
 
 returns-5 : tie.Need-returns-5
 returns-5 c = body-outside _ 4 _ _ _ _ (omega arith) (c .before .before .before .before .scalar-slot5 .ensures) (c .before .before .before .read-number5 .ensures) (c .before .enum-told5 .given .1) (c .refused5 .ensures .0) (c .refused5 .ensures .1)
 
-scalar-slot-requires-6 : tie.Need-scalar-slot-requires-6
-scalar-slot-requires-6 c κs = search needs
-
 read-number-requires-6 : tie.Need-read-number-requires-6
 read-number-requires-6 c κs = (omega (arith, stored-177, c .before .before .before .before .before .before .before .before .before .before .before .before .before .before .before .before .before .before .before .before .before .before .before .before .before .before .before .pre, scalar-ends _ 5 (c .scalar-slot6 .ensures) (omega arith)), scalar-short _ 5 (c .scalar-slot6 .ensures) (omega arith))
-
-enum-known-preset : tie.Need-enum-known-preset
-enum-known-preset c = search needs
-
-enum-told-6 : tie.Need-enum-told-6
-enum-told-6 c = search needs
-
-refused-requires-6 : tie.Need-refused-requires-6
-refused-requires-6 c κs = search needs
 
 returns-6 : tie.Need-returns-6
 returns-6 c = body-outside _ 5 _ _ _ _ (omega arith) (c .before .before .before .before .scalar-slot6 .ensures) (c .before .before .before .read-number6 .ensures) (c .before .enum-told6 .given .1) (c .refused6 .ensures .0) (c .refused6 .ensures .1)
 
-scalar-slot-requires-7 : tie.Need-scalar-slot-requires-7
-scalar-slot-requires-7 c κs = search needs
-
 read-number-requires-7 : tie.Need-read-number-requires-7
 read-number-requires-7 c κs = (omega (arith, stored-177, c .before .before .before .before .before .before .before .before .before .before .before .before .before .before .before .before .before .before .before .before .before .before .before .before .before .before .before .before .before .before .before .before .pre, scalar-ends _ 6 (c .scalar-slot7 .ensures) (omega arith)), scalar-short _ 6 (c .scalar-slot7 .ensures) (omega arith))
-
-enum-known-raw : tie.Need-enum-known-raw
-enum-known-raw c = search needs
-
-enum-told-7 : tie.Need-enum-told-7
-enum-told-7 c = search needs
-
-refused-requires-7 : tie.Need-refused-requires-7
-refused-requires-7 c κs = search needs
 
 returns-7 : tie.Need-returns-7
 returns-7 c = body-outside _ 6 _ _ _ _ (omega arith) (c .before .before .before .before .scalar-slot7 .ensures) (c .before .before .before .read-number7 .ensures) (c .before .enum-told7 .given .1) (c .refused7 .ensures .0) (c .refused7 .ensures .1)
 
-scalar-slot-requires-8 : tie.Need-scalar-slot-requires-8
-scalar-slot-requires-8 c κs = search needs
-
 read-number-requires-8 : tie.Need-read-number-requires-8
 read-number-requires-8 c κs = (omega (arith, stored-177, c .before .before .before .before .before .before .before .before .before .before .before .before .before .before .before .before .before .before .before .before .before .before .before .before .before .before .before .before .before .before .before .before .before .before .before .before .before .pre, scalar-ends _ 7 (c .scalar-slot8 .ensures) (omega arith)), scalar-short _ 7 (c .scalar-slot8 .ensures) (omega arith))
-
-enum-known-number : tie.Need-enum-known-number
-enum-known-number c = search needs
-
-enum-told-8 : tie.Need-enum-told-8
-enum-told-8 c = search needs
-
-refused-requires-8 : tie.Need-refused-requires-8
-refused-requires-8 c κs = search needs
 
 returns-8 : tie.Need-returns-8
 returns-8 c = body-outside _ 7 _ _ _ _ (omega arith) (c .before .before .before .before .scalar-slot8 .ensures) (c .before .before .before .read-number8 .ensures) (c .before .enum-told8 .given .1) (c .refused8 .ensures .0) (c .refused8 .ensures .1)
 
-cast-t29 : tie.Need-cast-t29
-cast-t29 c =
+cast-address : tie.Need-cast-address
+cast-address c =
     let at₇ = c in
     let at₆ = at₇ .before .before .before .before .before in
     let at₅ = at₆ .before .before .before .before .before in
@@ -164,8 +73,8 @@ cast-t29 c =
     let at₀ = at₁ .before .before .before .before .before in
     omega (arith, is-byte _ 0 _ _ _ (at₀ .before .before .before .before .scalar-slot .ensures) (at₀ .before .before .before .read-number .ensures) (at₀ .before .address .given .1) (omega arith))
 
-cast-t30 : tie.Need-cast-t30
-cast-t30 c =
+cast-access : tie.Need-cast-access
+cast-access c =
     let at₇ = c in
     let at₆ = at₇ .before .before .before .before .before in
     let at₅ = at₆ .before .before .before .before .before in
@@ -175,19 +84,16 @@ cast-t30 c =
     let at₁ = at₂ .before .before .before .before .before in
     omega (arith, is-byte _ 1 _ _ _ (at₁ .before .before .before .before .scalar-slot2 .ensures) (at₁ .before .before .before .read-number2 .ensures) (at₁ .before .access .given .1) (omega arith))
 
-phase-of-requires : tie.Need-phase-of-requires
-phase-of-requires c κs = search needs
-
-cast-t46 : tie.Need-cast-t46
-cast-t46 c =
+cast-recipe : tie.Need-cast-recipe
+cast-recipe c =
     let at₇ = c .before in
     let at₆ = at₇ .before .before .before .before .before in
     let at₅ = at₆ .before .before .before .before .before in
     let at₄ = at₅ .before .before .before .before .before in
     omega (arith, is-byte _ 4 _ _ _ (at₄ .before .before .before .before .scalar-slot5 .ensures) (at₄ .before .before .before .read-number5 .ensures) (at₄ .before .recipe .given .1) (omega arith))
 
-cast-t47 : tie.Need-cast-t47
-cast-t47 c =
+cast-number : tie.Need-cast-number
+cast-number c =
     let at₇ = c .before in
     omega (arith, is-two-bytes _ 7 _ _ _ (at₇ .before .before .before .before .scalar-slot8 .ensures) (at₇ .before .before .before .read-number8 .ensures) (at₇ .before .number .given .1) refl)
 
@@ -195,6 +101,7 @@ read-parameters-requires : tie.Need-read-parameters-requires
 read-parameters-requires c κs = c .before .before .before .before .before .before .before .before .before .before .before .before .before .before .before .before .before .before .before .before .before .before .before .before .before .before .before .before .before .before .before .before .before .before .before .before .before .before .before .before .before .before .pre
 
 returns-9 : tie.Need-returns-9
+unfolding putAll putBits put lowRecord recordFrom
 returns-9 c =
     let at₇ = c .before .before in
     let at₆ = at₇ .before .before .before .before .before in
@@ -204,64 +111,64 @@ returns-9 c =
     let at₂ = at₃ .before .before .before .before .before in
     let at₁ = at₂ .before .before .before .before .before in
     let at₀ = at₁ .before .before .before .before .before in
-    body-inside _ _ _ _ _ _ _ _ _ _ _ _ _ _ _ _ _ _ _ _ _ _ _ _ _ (at₀ .before .before .before .before .scalar-slot .ensures) (at₀ .before .before .before .read-number .ensures) (at₀ .before .address .given .1) (at₁ .before .before .before .before .scalar-slot2 .ensures) (at₁ .before .before .before .read-number2 .ensures) (at₁ .before .access .given .1) (at₂ .before .before .before .before .scalar-slot3 .ensures) (at₂ .before .before .before .read-number3 .ensures) (at₂ .before .phase .given .1) (at₃ .before .before .before .before .scalar-slot4 .ensures) (at₃ .before .before .before .read-number4 .ensures) (at₃ .before .flags .given .1) (at₄ .before .before .before .before .scalar-slot5 .ensures) (at₄ .before .before .before .read-number5 .ensures) (at₄ .before .recipe .given .1) (at₅ .before .before .before .before .scalar-slot6 .ensures) (at₅ .before .before .before .read-number6 .ensures) (at₅ .before .preset .given .1) (at₆ .before .before .before .before .scalar-slot7 .ensures) (at₆ .before .before .before .read-number7 .ensures) (at₆ .before .raw .given .1) (at₇ .before .before .before .before .scalar-slot8 .ensures) (at₇ .before .before .before .read-number8 .ensures) (at₇ .before .number .given .1) _ _ _ _ _ refl refl (c .before .phase-of .ensures) (c .read-parameters .ensures)
+    body-inside _ _ _ _ _ _ _ _ _ _ _ _ _ _ _ _ _ _ _ _ _ _ _ _ _ (at₀ .before .before .before .before .scalar-slot .ensures) (at₀ .before .before .before .read-number .ensures) (at₀ .before .address .given .1) (at₁ .before .before .before .before .scalar-slot2 .ensures) (at₁ .before .before .before .read-number2 .ensures) (at₁ .before .access .given .1) (at₂ .before .before .before .before .scalar-slot3 .ensures) (at₂ .before .before .before .read-number3 .ensures) (at₂ .before .phase .given .1) (at₃ .before .before .before .before .scalar-slot4 .ensures) (at₃ .before .before .before .read-number4 .ensures) (at₃ .before .flags .given .1) (at₄ .before .before .before .before .scalar-slot5 .ensures) (at₄ .before .before .before .read-number5 .ensures) (at₄ .before .recipe .given .1) (at₅ .before .before .before .before .scalar-slot6 .ensures) (at₅ .before .before .before .read-number6 .ensures) (at₅ .before .preset .given .1) (at₆ .before .before .before .before .scalar-slot7 .ensures) (at₆ .before .before .before .read-number7 .ensures) (at₆ .before .raw .given .1) (at₇ .before .before .before .before .scalar-slot8 .ensures) (at₇ .before .before .before .read-number8 .ensures) (at₇ .before .number .given .1) _ (replicate parameterCount 0) (replicate parameterCount 0) _ _ refl refl (simp (c .before .phase-of .ensures)) (c .read-parameters .ensures)
 
 pub read-numbers-spec : {M : Type 1} → statement M
 read-numbers-spec =
     tie.close
     (tie.spec
-    scalar-slot-requires
+    (λ c κs. search needs)
     read-number-requires
-    enum-known-address
-    enum-told
-    refused-requires
+    (λ c. search needs)
+    (λ c. search needs)
+    (λ c κs. search needs)
     returns
-    scalar-slot-requires-2
+    (λ c κs. search needs)
     read-number-requires-2
-    enum-known-access
-    enum-told-2
-    refused-requires-2
+    (λ c. search needs)
+    (λ c. search needs)
+    (λ c κs. search needs)
     returns-2
-    scalar-slot-requires-3
+    (λ c κs. search needs)
     read-number-requires-3
-    enum-known-phase
-    enum-told-3
-    refused-requires-3
+    (λ c. search needs)
+    (λ c. search needs)
+    (λ c κs. search needs)
     returns-3
-    scalar-slot-requires-4
+    (λ c κs. search needs)
     read-number-requires-4
-    enum-known-flags
-    enum-told-4
-    refused-requires-4
+    (λ c. search needs)
+    (λ c. search needs)
+    (λ c κs. search needs)
     returns-4
-    scalar-slot-requires-5
+    (λ c κs. search needs)
     read-number-requires-5
-    enum-known-recipe
-    enum-told-5
-    refused-requires-5
+    (λ c. search needs)
+    (λ c. search needs)
+    (λ c κs. search needs)
     returns-5
-    scalar-slot-requires-6
+    (λ c κs. search needs)
     read-number-requires-6
-    enum-known-preset
-    enum-told-6
-    refused-requires-6
+    (λ c. search needs)
+    (λ c. search needs)
+    (λ c κs. search needs)
     returns-6
-    scalar-slot-requires-7
+    (λ c κs. search needs)
     read-number-requires-7
-    enum-known-raw
-    enum-told-7
-    refused-requires-7
+    (λ c. search needs)
+    (λ c. search needs)
+    (λ c κs. search needs)
     returns-7
-    scalar-slot-requires-8
+    (λ c κs. search needs)
     read-number-requires-8
-    enum-known-number
-    enum-told-8
-    refused-requires-8
+    (λ c. search needs)
+    (λ c. search needs)
+    (λ c κs. search needs)
     returns-8
-    cast-t29
-    cast-t30
-    phase-of-requires
-    cast-t46
-    cast-t47
+    cast-address
+    cast-access
+    (λ c κs. search needs)
+    cast-recipe
+    cast-number
     read-parameters-requires
     returns-9)

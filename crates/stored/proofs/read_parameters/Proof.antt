@@ -33,33 +33,12 @@ loop-holds c = (omega arith, begun _ _)
 loop2-holds : tie.Need-loop2-holds Inv-loop2 μ-loop2 Inv-loop μ-loop Inv-loop3 μ-loop3
 loop2-holds c = (c .loop-test .taken, (omega arith, λ r e. recipe-begun (c .before .before .before .args .s .now) r _ (c .before .loop .recipe) e))
 
-mul-i : tie.Need-mul-i Inv-loop2 μ-loop2 Inv-loop μ-loop Inv-loop3 μ-loop3
-mul-i c = search needs
-
-add-i : tie.Need-add-i Inv-loop2 μ-loop2 Inv-loop μ-loop Inv-loop3 μ-loop3
-add-i c = search needs
-
-range-at-requires : tie.Need-range-at-requires Inv-loop2 μ-loop2 Inv-loop μ-loop Inv-loop3 μ-loop3
-range-at-requires c κs = search needs
-
 read-parameter-requires :
     tie.Need-read-parameter-requires Inv-loop2 μ-loop2 Inv-loop μ-loop Inv-loop3 μ-loop3
 read-parameter-requires c κs = (omega arith, c .before .before .before .before .before .before .pre, recipe-range _ _ _ (c .before .before .loop2 .inv .0) (c .before .loop2-test .taken) (c .range-at .ensures))
 
-enum-known-value : tie.Need-enum-known-value Inv-loop2 μ-loop2 Inv-loop μ-loop Inv-loop3 μ-loop3
-enum-known-value c = search needs
-
-enum-told : tie.Need-enum-told Inv-loop2 μ-loop2 Inv-loop μ-loop Inv-loop3 μ-loop3
-enum-told c = search needs
-
-refused-requires : tie.Need-refused-requires Inv-loop2 μ-loop2 Inv-loop μ-loop Inv-loop3 μ-loop3
-refused-requires c κs = search needs
-
 returns : tie.Need-returns Inv-loop2 μ-loop2 Inv-loop μ-loop Inv-loop3 μ-loop3
 returns c = one-outside _ _ _ _ (c .before .before .before .before .before .before .loop2 .inv .1 .1 _ (c .before .before .before .before .before .before .before .before .loop .inv .1)) _ (c .before .before .before .read-parameter .ensures) (omega arith) (c .before .enum-told .given .1) _ _ (c .refused .ensures .0) (c .refused .ensures .1)
-
-mul-filled : tie.Need-mul-filled Inv-loop2 μ-loop2 Inv-loop μ-loop Inv-loop3 μ-loop3
-mul-filled c = search needs
 
 element-write-filled :
     tie.Need-element-write-filled Inv-loop2 μ-loop2 Inv-loop μ-loop Inv-loop3 μ-loop3
@@ -69,26 +48,11 @@ element-write-filled-2 :
     tie.Need-element-write-filled-2 Inv-loop2 μ-loop2 Inv-loop μ-loop Inv-loop3 μ-loop3
 element-write-filled-2 c = search needs
 
-add-kind : tie.Need-add-kind Inv-loop2 μ-loop2 Inv-loop μ-loop Inv-loop3 μ-loop3
-add-kind c = search needs
-
-loop2-less : tie.Need-loop2-less Inv-loop2 μ-loop2 Inv-loop μ-loop Inv-loop3 μ-loop3
-loop2-less c = search needs
-
 loop2-again : tie.Need-loop2-again Inv-loop2 μ-loop2 Inv-loop μ-loop Inv-loop3 μ-loop3
 loop2-again c = (c .before .before .before .before .before .before .loop2 .inv .0, (omega arith, λ r e. next-kind _ r _ _ _ (c .before .before .before .before .before .before .loop2 .inv .1 .1 r e) _ (c .before .before .before .read-parameter .ensures) _ _ (c .before .value .given .1)))
 
-add-recipe : tie.Need-add-recipe Inv-loop2 μ-loop2 Inv-loop μ-loop Inv-loop3 μ-loop3
-add-recipe c = search needs
-
-loop-less : tie.Need-loop-less Inv-loop2 μ-loop2 Inv-loop μ-loop Inv-loop3 μ-loop3
-loop-less c = search needs
-
 loop-again : tie.Need-loop-again Inv-loop2 μ-loop2 Inv-loop μ-loop Inv-loop3 μ-loop3
 loop-again c = (omega arith, recipe-ended _ _ _ _ _ (c .before .loop2 .inv .1 .0) (c .loop2-test .left) (c .before .loop2 .inv .1 .1 _ (c .before .before .before .loop .inv .1)))
-
-mul-i-2 : tie.Need-mul-i-2 Inv-loop2 μ-loop2 Inv-loop μ-loop Inv-loop3 μ-loop3
-mul-i-2 c = search needs
 
 loop3-holds : tie.Need-loop3-holds Inv-loop2 μ-loop2 Inv-loop μ-loop Inv-loop3 μ-loop3
 loop3-holds c = (omega arith, (omega arith, λ r e. e))
@@ -105,18 +69,12 @@ enum-known-value-2 :
     tie.Need-enum-known-value-2 Inv-loop2 μ-loop2 Inv-loop μ-loop Inv-loop3 μ-loop3
 enum-known-value-2 c = search needs
 
-enum-told-2 : tie.Need-enum-told-2 Inv-loop2 μ-loop2 Inv-loop μ-loop Inv-loop3 μ-loop3
-enum-told-2 c = search needs
-
 refused-requires-2 :
     tie.Need-refused-requires-2 Inv-loop2 μ-loop2 Inv-loop μ-loop Inv-loop3 μ-loop3
 refused-requires-2 c κs = search needs
 
 returns-2 : tie.Need-returns-2 Inv-loop2 μ-loop2 Inv-loop μ-loop Inv-loop3 μ-loop3
 returns-2 c = one-outside _ _ _ _ (c .before .before .before .before .before .before .loop3 .inv .1 .1 _ (recipes-ended _ _ _ _ (c .before .before .before .before .before .before .before .before .loop .inv .0) (c .before .before .before .before .before .before .before .loop-test .left) (c .before .before .before .before .before .before .before .before .loop .inv .1))) _ (c .before .before .before .read-parameter2 .ensures) (c .before .before .before .before .before .loop3-test .taken) (c .before .enum-told2 .given .1) _ _ (c .refused2 .ensures .0) (c .refused2 .ensures .1)
-
-mul-filled-2 : tie.Need-mul-filled-2 Inv-loop2 μ-loop2 Inv-loop μ-loop Inv-loop3 μ-loop3
-mul-filled-2 c = search needs
 
 element-write-filled-3 :
     tie.Need-element-write-filled-3 Inv-loop2 μ-loop2 Inv-loop μ-loop Inv-loop3 μ-loop3
@@ -125,12 +83,6 @@ element-write-filled-3 c = search needs
 element-write-filled-4 :
     tie.Need-element-write-filled-4 Inv-loop2 μ-loop2 Inv-loop μ-loop Inv-loop3 μ-loop3
 element-write-filled-4 c = search needs
-
-add-i-2 : tie.Need-add-i-2 Inv-loop2 μ-loop2 Inv-loop μ-loop Inv-loop3 μ-loop3
-add-i-2 c = search needs
-
-loop3-less : tie.Need-loop3-less Inv-loop2 μ-loop2 Inv-loop μ-loop Inv-loop3 μ-loop3
-loop3-less c = search needs
 
 loop3-again : tie.Need-loop3-again Inv-loop2 μ-loop2 Inv-loop μ-loop Inv-loop3 μ-loop3
 loop3-again c = (omega arith, (omega arith, λ r e. both-inside _ r _ _ (c .before .before .before .before .before .before .loop3 .inv .1 .1 r e) _ (c .before .before .before .read-parameter2 .ensures) _ _ (c .before .value2 .given .1)))
@@ -150,35 +102,35 @@ read-parameters-spec =
     μ-loop3
     loop-holds
     loop2-holds
-    mul-i
-    add-i
-    range-at-requires
+    (λ c. search needs)
+    (λ c. search needs)
+    (λ c κs. search needs)
     read-parameter-requires
-    enum-known-value
-    enum-told
-    refused-requires
+    (λ c. search needs)
+    (λ c. search needs)
+    (λ c κs. search needs)
     returns
-    mul-filled
+    (λ c. search needs)
     element-write-filled
     element-write-filled-2
-    add-kind
-    loop2-less
+    (λ c. search needs)
+    (λ c. search needs)
     loop2-again
-    add-recipe
-    loop-less
+    (λ c. search needs)
+    (λ c. search needs)
     loop-again
-    mul-i-2
+    (λ c. search needs)
     loop3-holds
     range-at-requires-2
     read-parameter-requires-2
     enum-known-value-2
-    enum-told-2
+    (λ c. search needs)
     refused-requires-2
     returns-2
-    mul-filled-2
+    (λ c. search needs)
     element-write-filled-3
     element-write-filled-4
-    add-i-2
-    loop3-less
+    (λ c. search needs)
+    (λ c. search needs)
     loop3-again
     returns-3)

@@ -4,17 +4,5 @@ use borrow.Author.Needs.{needs}
 use Rattle.knowledge.proofs.Knowledge.put.Statement.{statement}
 use Rattle.knowledge.proofs.Knowledge.put.Tie as tie
 
-mul-self : tie.Need-mul-self
-mul-self c = search needs
-
-element-write-self : tie.Need-element-write-self
-element-write-self c = search needs
-
-returns : tie.Need-returns
-returns c = search needs
-
-returns-2 : tie.Need-returns-2
-returns-2 c = search (beyond, needs)
-
 pub put-spec : {M : Type 1} → statement M
-put-spec = tie.close (tie.spec mul-self element-write-self returns returns-2)
+put-spec = tie.close (tie.spec (λ c. search needs) (λ c. search needs) (λ c. search needs) (λ c. search (beyond, needs)))

@@ -5,15 +5,9 @@ use borrow.Author.Needs.{needs}
 use Rattle.state.proofs.Record.set_batch.Statement.{statement}
 use Rattle.state.proofs.Record.set_batch.Tie as tie
 
-next-number-requires : tie.Need-next-number-requires
-next-number-requires c κs = search needs
-
-in-phase-requires : tie.Need-in-phase-requires
-in-phase-requires c κs = search needs
-
 returns : tie.Need-returns
 unfolding put
 returns c = batch-set _ _ _ _ (c .before .next-number .ensures) (c .in-phase .ensures)
 
 pub set-batch-spec : {M : Type 1} → statement M
-set-batch-spec = tie.close (tie.spec next-number-requires in-phase-requires returns)
+set-batch-spec = tie.close (tie.spec (λ c κs. search needs) (λ c κs. search needs) returns)

@@ -7,15 +7,9 @@ use borrow.Author.Needs.{needs}
 use Rattle.state.proofs.Record.still.Statement.{statement}
 use Rattle.state.proofs.Record.still.Tie as tie
 
-valid-requires : tie.Need-valid-requires
-valid-requires c κs = search needs
-
-returns : tie.Need-returns
-returns c = search after-invalid
-
 returns-2 : tie.Need-returns-2
 unfolding put
 returns-2 c = after-valid _ _ (c .before .valid .ensures) (c .if1 .left) Still _ refl
 
 pub still-spec : {M : Type 1} → statement M
-still-spec = tie.close (tie.spec valid-requires returns returns-2)
+still-spec = tie.close (tie.spec (λ c κs. search needs) (λ c. search after-invalid) returns-2)
