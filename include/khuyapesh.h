@@ -21,9 +21,10 @@
 
 #define KHUYAPESH_STACK 4096
 
-/* Bytes of a stored record; of the longest frame, and the least room for a reply, a built frame or a text that is read; of
- * the longest recording. */
-#define KHUYAPESH_STORED_LENGTH 177
+/* Bytes of a stored record as it is written, which is version 2; of the longest frame, and the least room for a reply, a
+ * built frame or a text that is read; of the longest recording. Stored bytes of version 1 have 177 and are only read: they
+ * hold no alarms, and the record that is read from them has none on. */
+#define KHUYAPESH_STORED_LENGTH 180
 #define KHUYAPESH_FRAME_ROOM 64
 #define KHUYAPESH_RECORDING_LENGTH 65535
 
@@ -37,15 +38,18 @@
 #define KHUYAPESH_KEYPAD_ON 2
 #define KHUYAPESH_KEYPAD_OFF 3
 #define KHUYAPESH_POWER_BACK 4
+#define KHUYAPESH_ALARM_ON 5
+#define KHUYAPESH_ALARM_OFF 6
 
 /* What is answered: a length (4 to 64), one of these three, */
 #define KHUYAPESH_DONE 0u
 #define KHUYAPESH_FITS 0u
 #define KHUYAPESH_REFUTED 1u
-/* or, from 100 on, one of these classes plus the number that document 01 gives within it:
+/* or, from 100 on, one of these classes plus the number that documents 01 and 02 give within it:
  *     silences: S2 short reply buffer, S3 request's length, S4 mark, S5 check, S6 text byte, S7 address or code not of its
  *         form, S8 another address (a record that is not valid, S1, is answered by its K)
- *     stored bytes: K1 length, K2 version, K3 length field, K4 field out of range, K6 short buffer
+ *     stored bytes: K1 length, K2 version that is not the length's, K3 length field, K4 field out of range, K6
+ *         short buffer
  *     no such kind or event: alone, nothing is added
  *     host side: H1 short buffer, H2 text's length, H3 text byte
  *     recordings: J1 length, J2 version, J3 length field, J4 address or access, J5 cut exchange */
@@ -65,17 +69,21 @@ extern "C" {
 #endif
 
 /* One call of the controller. Answers the reply's length, with the reply at the start of the reply buffer, the rest of
- * which stays, and the record after it in place of the stored record; or no such kind, then K1 to K4, then S2 to S8. */
+ * which stays, and the record after it in place of the stored record; or no such kind, then K1 to K4, then K6 for a stored
+ * record of version 1, whose bytes have no room for the form that is written (khuyapesh_stored brings it there), then S2 to
+ * S8. */
 uint32_t khuyapesh_call(uint8_t kind, uint8_t *stored, size_t stored_length, const uint8_t *request, size_t request_length,
                         uint8_t *reply, size_t reply_length);
 
-/* One panel event; pulses is read by KHUYAPESH_PULSES alone. Answers KHUYAPESH_DONE, with the record after it in place of
- * the stored record; or no such event, then K1 to K4. */
-uint32_t khuyapesh_panel(uint8_t event, uint16_t pulses, uint8_t *stored, size_t stored_length);
+/* One panel event; number is the count of pulses (KHUYAPESH_PULSES) or the alarm's number (KHUYAPESH_ALARM_ON and
+ * KHUYAPESH_ALARM_OFF; one outside 1 to 19 changes nothing), and the others do not read it. Answers KHUYAPESH_DONE, with
+ * the record after it in place of the stored record; or no such event, then K1 to K4, then K6 as in khuyapesh_call. */
+uint32_t khuyapesh_panel(uint8_t event, uint16_t number, uint8_t *stored, size_t stored_length);
 
-/* Reads a stored record and writes the record that was read, in its stored form, to the start of out, the rest of which
- * stays. Answers KHUYAPESH_DONE; or K1 to K4, and then the record written is the low one (every field at its low end, Idle,
- * flags off); or K6 if out is under KHUYAPESH_STORED_LENGTH bytes, with out untouched, whatever the stored bytes are. */
+/* Reads a stored record of either version and writes the record that was read, in the form of version 2, to the start of
+ * out, the rest of which stays. Answers KHUYAPESH_DONE; or K1 to K4, and then the record written is the low one (every
+ * field at its low end, Idle, flags and alarms off); or K6 if out is under KHUYAPESH_STORED_LENGTH bytes, with out
+ * untouched, whatever the stored bytes are. */
 uint32_t khuyapesh_stored(const uint8_t *stored, size_t stored_length, uint8_t *out, size_t out_length);
 
 /* Host side: builds the frame of a text at the start of out, the rest of which stays. Answers the frame's length; or no

@@ -122,6 +122,53 @@ RUNNING_WITH_KEYPAD_ON = [
     ("ET", "NO02"),
 ]
 
+# The power was away while a batch ran; since then the power-fail alarm is on (A3's 1 of EA).
+BATCH_HELD_BY_ALARM = [
+    ("EQ", "181100"),
+    ("RS", "RS AL PF TP "),
+    ("SA", "NO09"),
+    ("EA", "00100"),
+    ("AR", "OK"),
+    ("EA", "00000"),
+    ("SA", "OK"),
+    ("EQ", "580100"),
+    ("RS", "RS PF TP RL "),
+]
+
+# Two alarms: communications, which only the panel clears (A4's 4), and user alarm 2 (A3's 4).
+ALARM_STAYS_ON = [
+    ("SB 500", "OK"),
+    ("SA", "NO09"),
+    ("EA", "00440"),
+    ("AR", "OK"),
+    ("EA", "00040"),
+    ("SA", "NO09"),
+    ("AR", "OK"),
+    ("EA", "00040"),
+    ("EQ", "121000"),
+    ("ET", "OK"),
+    ("RS", "RS AL BD "),
+]
+
+# What the first AR left on is an alarm that no AR switches off; it was never asked which.
+LASTING_ALARM_FORGOTTEN = [
+    ("EQ", "101000"),
+    ("AR", "OK"),
+    ("EQ", "101000"),
+    ("SA", "NO09"),
+    ("AR", "OK"),
+    ("SA", "OK"),
+    ("EQ", "580000"),
+]
+
+# A start is accepted only while no alarm is on.
+STARTED_WITH_ALARM = [
+    ("SB 500", "OK"),
+    ("SA", "OK"),
+    ("EQ", "5:1000"),
+    ("EA", "00001"),
+]
+
 # On the way to the controller a digit became another; the check character is still that of 10150.
 DISTURBED_WRITE = framed(1, "PC 032 10150").replace(b"10150", b"10950")
 
@@ -324,7 +371,7 @@ class Chance:
 
 
 class SimulatedController:
-    """A controller that keeps the rules. Its keypad is off and stays so, for no panel event comes."""
+    """A controller that keeps the rules. Keypad and alarms stay off, for no panel event comes."""
 
     def __init__(self, access, chance):
         self.access = access
@@ -351,7 +398,7 @@ class SimulatedController:
         return self.refusal(code, words) or self.shown(code, words) or self.carried_out(code, words)
 
     def refusal(self, code, words):
-        """The first refusal that applies, or nothing. NO02 is not among them, the keypad being off."""
+        """The first refusal that applies, or nothing; keypad and alarms being off, no NO02 or NO09."""
         if (code, words) == ("RE", ["PF"]) or (code == "RT" and words != ["R"]):
             return "NO08"
         if code in ("PV", "XV", "PC", "XC") and words[0] not in PARAMETER_RANGES:
@@ -535,13 +582,16 @@ def length_field_wrong():
 
 def every_recording():
     return {
+        "alarm_stays_on": recording(1, 2, ALARM_STAYS_ON),
         "another_recipes_factor": recording(1, 2, ANOTHER_RECIPES_FACTOR),
+        "batch_held_by_alarm": recording(1, 2, BATCH_HELD_BY_ALARM),
         "bench_old_factor": recording(1, 2, BENCH_OLD_FACTOR),
         "bench_other_recipe": recording(1, 2, BENCH_OTHER_RECIPE),
         "check_character_02": recording(1, 2, CHECK_CHARACTER_02),
         "cut_by_the_recorder": cut_by_the_recorder(),
         "honest_day": recording(7, 2, HONEST_DAY),
         "keypad_then_phase": recording(1, 2, KEYPAD_THEN_PHASE),
+        "lasting_alarm_forgotten": recording(1, 2, LASTING_ALARM_FORGOTTEN),
         "length_field_wrong": length_field_wrong(),
         "level_stays_open": recording(1, 2, LEVEL_STAYS_OPEN),
         "long_honest": long_honest(),
@@ -549,6 +599,7 @@ def every_recording():
         "no_exchange": recording(1, 2, []),
         "no_phase_left": recording(1, 2, NO_PHASE_LEFT),
         "running_with_keypad_on": recording(1, 2, RUNNING_WITH_KEYPAD_ON),
+        "started_with_alarm": recording(1, 2, STARTED_WITH_ALARM),
         "version_2": recording(1, 2, BENCH_OTHER_RECIPE, version=2),
         "wrong_frame_answered": recording(1, 2, WRONG_FRAME_ANSWERED),
         "wrong_frame_silence": recording(1, 2, WRONG_FRAME_SILENCE),

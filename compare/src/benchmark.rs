@@ -1,9 +1,12 @@
 //! The library beside this program on the same inputs: times, which are of one run and test nothing,
-//! or a fixed amount of work for callgrind to count the instructions of.
+//! or a fixed amount of work for callgrind to count the instructions of. The inputs are of document
+//! 01, without alarms, so that the numbers of one delivery can be held against another's.
 
 use crate::fault::Fault;
 use crate::frame::{self, Kind};
-use crate::generate::{recordings, records, requests};
+use crate::generate::recordings;
+use crate::generate::records::record_without_alarms;
+use crate::generate::requests::{self, command_of_document_01};
 use crate::random::Random;
 use crate::record::{Phase, Record};
 use crate::stored::{self, STORED_LENGTH};
@@ -76,7 +79,9 @@ fn mixes(random: &mut Random, address: u8) -> Vec<Mix> {
         (
             "calls: random mix",
             (0..1_000)
-                .map(|_| requests::request(random, Kind::Minicomputer, address))
+                .map(|_| {
+                    requests::request(random, Kind::Minicomputer, address, command_of_document_01)
+                })
                 .collect(),
         ),
     ]
@@ -88,7 +93,7 @@ fn calls(random: &mut Random) -> Vec<Class> {
         access: 3,
         phase: Phase::Idle,
         keypad: false,
-        ..records::record(random)
+        ..record_without_alarms(random)
     };
     let form = stored::form(&record);
     let class = |(name, requests): Mix| {
@@ -127,7 +132,7 @@ fn calls(random: &mut Random) -> Vec<Class> {
 
 /// Reading a stored form and writing it again, which each call over bytes does beside its own work.
 fn conversion(random: &mut Random) -> Class {
-    let form = stored::form(&records::record(random));
+    let form = stored::form(&record_without_alarms(random));
     let (mut out_first, mut out_second) = ([0; STORED_LENGTH], [0; STORED_LENGTH]);
     Class {
         name: "stored form read and written".to_string(),
@@ -144,7 +149,8 @@ fn conversion(random: &mut Random) -> Class {
 }
 
 fn judged(random: &mut Random, length: usize) -> Class {
-    let recording = recordings::long(random, length);
+    let record = record_without_alarms(random);
+    let recording = recordings::long(random, record, command_of_document_01, length);
     let recording_second = recording.clone();
     Class {
         name: format!("judge: {} bytes that fit", recording.len()),

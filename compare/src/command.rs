@@ -8,6 +8,7 @@ use crate::record::{parameter_place, value_in_range, HIGHEST_LEVEL, RECIPES};
 pub enum Command {
     Status,
     StatusCodes,
+    Alarms,
     BatchNumber,
     Recipe,
     RecipeFactor,
@@ -23,6 +24,7 @@ pub enum Command {
     End,
     ClearBatchReset,
     ClearChanged,
+    ResetAlarms,
 }
 
 impl Command {
@@ -31,6 +33,7 @@ impl Command {
             self,
             Command::Status
                 | Command::StatusCodes
+                | Command::Alarms
                 | Command::BatchNumber
                 | Command::Recipe
                 | Command::RecipeFactor
@@ -41,9 +44,9 @@ impl Command {
     }
 }
 
-pub const CODES: [&[u8; 2]; 16] = [
+pub const CODES: [&[u8; 2]; 18] = [
     b"EQ", b"RS", b"TN", b"RR", b"RC", b"RT", b"PV", b"XV", b"PC", b"XC", b"NR", b"SB", b"SA",
-    b"SP", b"ET", b"RE",
+    b"SP", b"ET", b"RE", b"EA", b"AR",
 ];
 
 /// A number of the stated count of digits, or NO01.
@@ -136,6 +139,8 @@ pub fn parse(code_and_arguments: &[u8], fault: Fault) -> Result<Command, u8> {
         (b"RE", Some(b"BD"), None) => Ok(Command::ClearBatchReset),
         (b"RE", Some(b"PC"), None) => Ok(Command::ClearChanged),
         (b"RE", Some(b"PF"), None) => unavailable,
+        (b"EA", None, None) => Ok(Command::Alarms),
+        (b"AR", None, None) => Ok(Command::ResetAlarms),
         _ => Err(1),
     }
 }
@@ -155,6 +160,8 @@ mod tests {
             "PC 032 00008000",
             "SB 000001",
             "NR 08",
+            "EA",
+            "AR",
         ] {
             assert_eq!(refusal(text), None, "{text}");
         }
@@ -192,6 +199,12 @@ mod tests {
             "XC 99 4",
             "PC 999 x",
             "RT  R",
+            "EA ",
+            "EA SY",
+            "EAX",
+            "AR ",
+            "AR AA",
+            "AR PA SY",
         ] {
             assert_eq!(refusal(text), Some(1), "{text}");
         }

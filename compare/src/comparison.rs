@@ -160,14 +160,14 @@ impl Comparison {
     }
 
     /// Compares one panel event; answers the stored record after it.
-    pub fn panel(&mut self, event: u8, pulses: u16, stored: &[u8]) -> Result<Vec<u8>, Difference> {
+    pub fn panel(&mut self, event: u8, number: u16, stored: &[u8]) -> Result<Vec<u8>, Difference> {
         self.count(|counts| &mut counts.panel_events);
         let (_, after) = both(
-            || format!("panel event {event}, pulses {pulses}"),
+            || format!("panel event {event}, number {number}"),
             &[],
             ("stored", stored),
-            |lent| library::panel(event, pulses, lent),
-            |lent| interface::panel(event, pulses, lent, self.fault),
+            |lent| library::panel(event, number, lent),
+            |lent| interface::panel(event, number, lent, self.fault),
         )?;
         Ok(after)
     }
@@ -242,7 +242,8 @@ impl Comparison {
         }
     }
 
-    pub fn judge(&mut self, recording: &[u8]) -> Result<(), Difference> {
+    /// Compares a judgement; answers whether the recording fits.
+    pub fn judge(&mut self, recording: &[u8]) -> Result<bool, Difference> {
         self.count(|counts| &mut counts.recordings);
         let first = library::judge(recording);
         let second = interface::judge(recording, self.fault);
@@ -263,7 +264,7 @@ impl Comparison {
                 _ => self.counts.refused += 1,
             }
         }
-        Ok(())
+        Ok(first.0 == 0)
     }
 }
 

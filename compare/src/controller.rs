@@ -1,5 +1,6 @@
 //! One call of the controller, the record by value.
 
+use crate::alarms;
 use crate::command::{self, Command};
 use crate::fault::Fault;
 use crate::frame::{self, Kind, LEAST_BUFFER};
@@ -128,17 +129,25 @@ fn phase_passes(phase: Phase, command: Command, fault: Fault) -> bool {
     }
 }
 
-/// The first refusal of NO02, NO07 and NO05 that applies.
+fn alarms_pass(record: &Record, command: Command, fault: Fault) -> bool {
+    command != Command::Start || record.alarms == 0 || fault == Fault::StartIgnoresAlarms
+}
+
+/// The first refusal of NO02, NO07, NO05 and NO09 that applies.
 fn refused_by_record(record: &Record, command: Command, fault: Fault) -> Option<u8> {
     let mut tests = [
         (2, !(record.keypad && needs_keypad_off(command, fault))),
         (7, level_passes(record, command, fault)),
         (5, phase_passes(record.phase, command, fault)),
+        (9, alarms_pass(record, command, fault)),
     ];
     match fault {
         Fault::No07BeforeNo02 => tests.swap(0, 1),
         Fault::No05BeforeNo07 => tests.swap(1, 2),
-        Fault::No05BeforeNo02 => tests.rotate_right(1),
+        Fault::No05BeforeNo02 => tests[..3].rotate_right(1),
+        Fault::No09BeforeNo05 => tests.swap(2, 3),
+        Fault::No09BeforeNo02 => tests.rotate_right(1),
+        Fault::No09ForNo05 if command == Command::Start => tests[2].0 = 9,
         _ => {}
     }
     tests
@@ -173,17 +182,18 @@ fn status(record: &Record, fault: Fault) -> [u8; 6] {
             (4, record.phase == Phase::Done),
             (2, record.batch_reset),
         ]),
-        weigh(&[]),
+        weigh(&[(1, record.alarms != 0)]),
         weigh(&[(8, record.changed), (1, record.power_fail)]),
         weigh(&[]),
         weigh(&[]),
     ]
 }
 
-fn status_codes(record: &Record, fault: Fault) -> [(&'static [u8; 3], bool); 8] {
+fn status_codes(record: &Record, fault: Fault) -> [(&'static [u8; 3], bool); 9] {
     let running = record.phase == Phase::Running;
     let stopped = record.phase == Phase::Stopped;
-    [
+    let mut codes: [(&[u8; 3], bool); 9] = [
+        (b"AL ", record.alarms != 0),
         (b"FL ", record.flow),
         (b"BD ", record.batch_reset),
         (b"PC ", record.changed),
@@ -195,7 +205,11 @@ fn status_codes(record: &Record, fault: Fault) -> [(&'static [u8; 3], bool); 8] 
             b"RL ",
             running || (stopped && fault == Fault::ReleaseWhenStopped),
         ),
-    ]
+    ];
+    if fault == Fault::AlarmCodeNotFirst {
+        codes.swap(0, 1);
+    }
+    codes
 }
 
 /// The reply's text and the record after a command.
@@ -209,7 +223,7 @@ pub fn carry_out(mut record: Record, command: Command, fault: Fault) -> (ReplyTe
     }
 }
 
-/// The text of the reply to a command that is accepted, or the number of NO02, NO07 or NO05.
+/// The text of the reply to a command that is accepted, or the number of NO02, NO07, NO05 or NO09.
 pub fn answer(record: &Record, command: Command, fault: Fault) -> Result<ReplyText, u8> {
     if let Some(number) = refused_by_record(record, command, fault) {
         return Err(number);
@@ -225,6 +239,7 @@ pub fn answer(record: &Record, command: Command, fault: Fault) -> Result<ReplyTe
                 }
             }
         }
+        Command::Alarms => text.word(&alarms::characters(record.alarms, fault)),
         Command::BatchNumber => {
             text.word(b"TN ");
             text.number(u32::from(record.number), 4);
@@ -290,9 +305,15 @@ pub fn record_after(mut record: Record, command: Command, fault: Fault) -> Recor
         }
         Command::Start => record.phase = Phase::Running,
         Command::Stop => record.phase = Phase::Stopped,
-        Command::End => record.phase = Phase::Idle,
+        Command::End => {
+            record.phase = Phase::Idle;
+            if fault == Fault::EndResetsAlarms {
+                record.alarms = alarms::after_reset(record.alarms, fault);
+            }
+        }
         Command::ClearBatchReset => record.batch_reset = false,
         Command::ClearChanged => record.changed = false,
+        Command::ResetAlarms => record.alarms = alarms::after_reset(record.alarms, fault),
         _ => {}
     }
     record

@@ -4,7 +4,7 @@ macro_rules! faults {
     ($($fault:ident $name:literal,)*) => {
         #[derive(Clone, Copy, PartialEq, Eq, Debug)]
         pub enum Fault {
-            /// The rules as document 01 gives them.
+            /// The rules as documents 01 and 02 give them.
             None,
             $($fault,)*
         }
@@ -36,6 +36,10 @@ faults! {
     No07BeforeNo02 "NO07 tested before NO02",
     No05BeforeNo07 "NO05 tested before NO07",
     No05BeforeNo02 "NO05 tested before NO02",
+    No09BeforeNo05 "NO09 tested before NO05",
+    No09BeforeNo02 "NO09 tested before NO02",
+    No09ForNo05 "SA refused by NO09 for its phase",
+    StartIgnoresAlarms "SA accepted while an alarm is on",
     StopRefusedByKeypad "SP refused by the keypad",
     LevelWriteNeedsPhase "XC given a phase test",
     LevelAboveAccessWritten "XC writes a level above the access",
@@ -52,6 +56,12 @@ faults! {
     WriteKeepsChanged "PC leaves changed off",
     StatusAboveNineAsLetter "status values above 9 as letters",
     ReleaseWhenStopped "RS shows RL when Stopped",
+    ResetClearsLasting "AR switches off all but the DA alarms",
+    ResetLeavesUserAlarm4 "AR leaves U4 on",
+    ResetLeavesUserAlarm5 "AR leaves U5 on",
+    EndResetsAlarms "ET switches alarms off",
+    ReservedBitCounted "A5's bits shifted by the reserved one",
+    AlarmCodeNotFirst "RS shows AL behind FL",
 
     // Panel
     PulsesPastPreset "pulses end a batch at > instead of >=",
@@ -61,12 +71,21 @@ faults! {
     NoPulsesFlow "0 pulses turn flow on",
     KeypadOnRunning "keypad on in Running",
     PowerBackKeepsRunning "power back leaves Running",
+    PowerBackRaisesAlarm "power back raises the power-fail alarm",
+    AlarmTwentyRaised "alarm 20 raised as alarm 19",
+    AllAlarmsCleared "clearing one alarm clears all",
 
     // Stored record
     LengthFieldBeforeVersion "K3 tested before K2",
     UnusedFlagsIgnored "unused flag bits ignored",
     RefusedRecordShown "a stored record refused by K4 is given as read",
     AddressZeroStored "address 0 accepted in a stored record",
+    ReservedBitIgnored "the alarms' reserved bit unchecked in version 2",
+    LastBitsIgnored "the last four bits behind the alarms unchecked in version 2",
+    OldVersionWithAlarm "version 1 read with an alarm",
+    OldVersionAsK1 "version 1 with 180 bytes answered as K1",
+    OldVersionAsK2 "version 1 in a call answered as K2",
+    RoomBeforeFields "K6 of version 1 in a call tested before K4",
 
     // Host side
     BuildByteBeforeLength "H3 tested before H2",
@@ -94,5 +113,12 @@ faults! {
     ShownLevelForgotten "a level that XV showed is forgotten",
     RefusedLevelForgotten "a level that NO07 told of is forgotten",
     NumberForgottenByBatch "a known batch number forgotten at SB",
+    ResetTakenForNoAlarm "AR taken to tell that no alarm is on",
+    SeenAlarmTakenForLasting "an alarm seen before AR taken for a lasting one",
+    LastingAlarmForgotten "a lasting alarm that is known to be on forgotten at AR",
+    ShownAlarmsForgotten "alarms that EA showed forgotten",
+    PhaseRefusalTeachesNoAlarm "SA's NO05 taken to tell that no alarm is on",
+    StartTeachesNothing "SA's OK not taken to tell that no alarm is on",
+    AlarmRefusalTeachesNothing "SA's NO09 not taken to tell that an alarm is on",
     RangeNotHeld "an unknown field shown out of its range accepted",
 }

@@ -6,6 +6,7 @@ use crate::fault::Fault;
 use crate::frame::{self, HostRefusal, Kind};
 use crate::judge::{self, Judgement};
 use crate::panel::{self, Event};
+use crate::record::Record;
 use crate::stored::{self, STORED_LENGTH};
 
 const UNKNOWN_KIND_OR_EVENT: u32 = 300;
@@ -18,13 +19,25 @@ fn kind_of(number: u8) -> Option<Kind> {
     }
 }
 
+/// The record in stored bytes that have room for the form that is written, or K1 to K4, then K6.
+fn lent_record(stored: &[u8], fault: Fault) -> Result<Record, u32> {
+    let room = stored.len() >= STORED_LENGTH;
+    match stored::read(stored, fault) {
+        (Some(4), _) if fault == Fault::RoomBeforeFields && !room => Err(206),
+        (Some(number), _) => Err(200 + u32::from(number)),
+        (None, _) if fault == Fault::OldVersionAsK2 && !room => Err(202),
+        (None, _) if !room => Err(206),
+        (None, record) => Ok(record),
+    }
+}
+
 pub fn call(kind: u8, stored: &mut [u8], request: &[u8], reply: &mut [u8], fault: Fault) -> u32 {
     let Some(kind) = kind_of(kind) else {
         return UNKNOWN_KIND_OR_EVENT;
     };
-    let record = match stored::read(stored, fault) {
-        (None, record) => record,
-        (Some(number), _) => return 200 + u32::from(number),
+    let record = match lent_record(stored, fault) {
+        Ok(record) => record,
+        Err(answer) => return answer,
     };
     match controller::call(record, kind, request, reply, fault) {
         (Outcome::Silence(number), _) => 100 + u32::from(number),
@@ -35,22 +48,24 @@ pub fn call(kind: u8, stored: &mut [u8], request: &[u8], reply: &mut [u8], fault
     }
 }
 
-pub fn panel(event: u8, pulses: u16, stored: &mut [u8], fault: Fault) -> u32 {
+pub fn panel(event: u8, number: u16, stored: &mut [u8], fault: Fault) -> u32 {
     let event = match event {
-        0 => Event::Pulses(pulses),
+        0 => Event::Pulses(number),
         1 => Event::Still,
         2 => Event::KeypadOn,
         3 => Event::KeypadOff,
         4 => Event::PowerBack,
+        5 => Event::AlarmOn(number),
+        6 => Event::AlarmOff(number),
         _ => return UNKNOWN_KIND_OR_EVENT,
     };
-    match stored::read(stored, fault) {
-        (None, record) => {
+    match lent_record(stored, fault) {
+        Ok(record) => {
             let after = panel::after(record, event, fault);
             stored.copy_from_slice(&stored::form(&after));
             0
         }
-        (Some(number), _) => 200 + u32::from(number),
+        Err(answer) => answer,
     }
 }
 
@@ -93,5 +108,63 @@ pub fn judge(recording: &[u8], fault: Fault) -> (u32, usize, usize) {
         Judgement::Fits { count } => (0, 0, count),
         Judgement::Refuted { place, count } => (1, place, count),
         Judgement::Refused(number) => (500 + u32::from(number), 0, 0),
+    }
+}
+
+#[cfg(test)]
+mod tests {
+    use super::*;
+    use crate::alarms;
+
+    /// The answer to a call with EA over stored bytes, which come back with it.
+    fn enquire(kind: u8, stored: &[u8], room: usize) -> (u32, Vec<u8>) {
+        let mut lent = stored.to_vec();
+        let request = frame::framed(Kind::Minicomputer, b"01EA");
+        let answer = call(kind, &mut lent, &request, &mut vec![0; room], Fault::None);
+        (answer, lent)
+    }
+
+    fn happens(event: u8, number: u16, stored: &[u8]) -> (u32, Vec<u8>) {
+        let mut lent = stored.to_vec();
+        let answer = panel(event, number, &mut lent, Fault::None);
+        (answer, lent)
+    }
+
+    /// Stored bytes of version 1 are read, but have no room for what is written in their place.
+    #[test]
+    fn version_1_has_no_room() {
+        let old = stored::old_form(&Record::low()).to_vec();
+        let mut bad = old.clone();
+        bad[3] = 0;
+        assert_eq!(enquire(2, &bad, 63), (300, bad.clone()));
+        assert_eq!(enquire(0, &bad, 63), (204, bad.clone()));
+        assert_eq!(enquire(0, &old, 63), (206, old.clone()));
+        assert_eq!(happens(7, 1, &bad), (300, bad.clone()));
+        assert_eq!(happens(5, 1, &bad), (204, bad.clone()));
+        assert_eq!(happens(5, 20, &old), (206, old.clone()));
+        let mut out = [9; 182];
+        assert_eq!(stored(&old, &mut out[..179], Fault::None), 206);
+        assert_eq!(out, [9; 182]);
+        assert_eq!(stored(&old, &mut out, Fault::None), 0);
+        assert_eq!(out[..180], stored::form(&Record::low()));
+        assert_eq!(out[180..], [9; 2]);
+        assert_eq!(enquire(0, &out[..180], 63).0, 102);
+    }
+
+    #[test]
+    fn alarm_events() {
+        let none = stored::form(&Record::low()).to_vec();
+        let raised = Record {
+            alarms: alarms::numbered(17),
+            ..Record::low()
+        };
+        let (answer, form) = happens(5, 17, &none);
+        assert_eq!((answer, &form[..]), (0, &stored::form(&raised)[..]));
+        assert_eq!(happens(6, 16, &form), (0, form.clone()));
+        assert_eq!(happens(6, 17, &form), (0, none.clone()));
+        for number in [0, 20, 273, 65_535] {
+            assert_eq!(happens(5, number, &none), (0, none.clone()));
+            assert_eq!(happens(6, number, &form), (0, form.clone()));
+        }
     }
 }

@@ -4,8 +4,10 @@
 //! controller's rules, exchange by exchange. The other fields are settled when a request first looks
 //! at them: a level by trying each one that is left, a wide field (a value, raw, the batch number) by
 //! the number that the recorded reply shows, since a reply that shows a field shows it whole. The
-//! preset is never shown.
+//! preset is never shown. Of the alarms a reply shows all, or only whether any is on, so each
+//! candidate keeps which may be on.
 
+use crate::alarms;
 use crate::command::Command;
 use crate::controller::{self, Request};
 use crate::fault::Fault;
@@ -23,8 +25,72 @@ pub enum Judgement {
     Refused(u8),
 }
 
+/// Which alarms may be on.
+#[derive(Clone, Copy, PartialEq, Eq, PartialOrd, Ord, Debug)]
+enum Alarms {
+    /// These and no others.
+    Exactly(u32),
+    /// Any of these, or none.
+    AnyOf(u32),
+    /// Any of these, one at least.
+    SomeOf(u32),
+}
+
+impl Alarms {
+    /// What is left when it is seen whether any is on.
+    fn seen(self, on: bool) -> Option<Alarms> {
+        match (self, on) {
+            (Alarms::Exactly(alarms), _) => ((alarms != 0) == on).then_some(self),
+            (Alarms::AnyOf(_), false) => Some(Alarms::Exactly(0)),
+            (Alarms::SomeOf(_), false) => None,
+            (Alarms::AnyOf(among) | Alarms::SomeOf(among), true) => Some(Alarms::SomeOf(among)),
+        }
+    }
+
+    /// What is left when all of them are shown.
+    fn shown(self, alarms: u32) -> Option<Alarms> {
+        let possible = match self {
+            Alarms::Exactly(known) => alarms == known,
+            Alarms::AnyOf(among) => alarms & !among == 0,
+            Alarms::SomeOf(among) => alarms & !among == 0 && alarms != 0,
+        };
+        possible.then_some(Alarms::Exactly(alarms))
+    }
+
+    /// What may be on after AR. One that was on at least may have been one that AR switches off.
+    fn after_reset(self, fault: Fault) -> Alarms {
+        match self {
+            _ if fault == Fault::ResetTakenForNoAlarm => Alarms::Exactly(0),
+            Alarms::Exactly(known) => Alarms::Exactly(alarms::after_reset(known, fault)),
+            Alarms::AnyOf(among) => Alarms::AnyOf(alarms::after_reset(among, fault)),
+            Alarms::SomeOf(among) => {
+                let left = alarms::after_reset(among, fault);
+                let one_stays = match fault {
+                    Fault::LastingAlarmForgotten => false,
+                    Fault::SeenAlarmTakenForLasting => true,
+                    _ => left == among,
+                };
+                if one_stays {
+                    Alarms::SomeOf(left)
+                } else {
+                    Alarms::AnyOf(left)
+                }
+            }
+        }
+    }
+
+    /// Alarms that may be on: none, where that is possible.
+    fn sample(self) -> u32 {
+        match self {
+            Alarms::Exactly(alarms) | Alarms::SomeOf(alarms) => alarms,
+            Alarms::AnyOf(_) => 0,
+        }
+    }
+}
+
 /// A set of records that agree in phase, flags and recipe. In `record` an unknown wide field stands
-/// at its low end, and so does each level, so that equal sets are equal candidates.
+/// at its low end, and so does each level, so that equal sets are equal candidates; the alarms there
+/// are a sample of those that may be on.
 #[derive(Clone, PartialEq, Eq, PartialOrd, Ord, Debug)]
 struct Candidate {
     record: Record,
@@ -32,6 +98,7 @@ struct Candidate {
     number_known: bool,
     /// One bit for each parameter whose value is known.
     values_known: u32,
+    alarms: Alarms,
     /// For each parameter, one bit for each level that it may have.
     levels: [u8; PARAMETERS],
 }
@@ -54,6 +121,7 @@ fn every_candidate(address: u8, access: u8, fault: Fault) -> Vec<Candidate> {
         raw_known: false,
         number_known: false,
         values_known: 0,
+        alarms: Alarms::AnyOf(alarms::ALL),
         levels: [(1 << (HIGHEST_LEVEL + 1)) - 1; PARAMETERS],
     };
     let mut candidates = Vec::with_capacity(5 * 32 * 8);
@@ -137,8 +205,31 @@ impl Candidate {
         }
     }
 
+    fn know_alarms(&mut self, alarms: Alarms) {
+        self.alarms = alarms;
+        self.record.alarms = alarms.sample();
+    }
+
+    /// Keeps the alarms that a reply leaves possible, or answers false if there are none.
+    fn keep_alarms(&mut self, told: Told) -> bool {
+        let left = match told {
+            Told::Nothing => return true,
+            Told::WhetherAny(on) => self.alarms.seen(on),
+            Told::All(alarms) => self.alarms.shown(alarms),
+        };
+        let Some(left) = left else {
+            return false;
+        };
+        self.know_alarms(left);
+        true
+    }
+
     /// Steps this candidate through a command that looks at no level; false if the reply disagrees.
-    fn step(&mut self, command: Command, reply: &[u8], fault: Fault) -> bool {
+    fn step(&mut self, command: Command, reply: &[u8], told: Told, fault: Fault) -> bool {
+        let alarms_before = self.alarms;
+        if !self.keep_alarms(told) {
+            return false;
+        }
         let shown = self.shown(command);
         if let Some(field) = shown {
             if !self.knows(field) {
@@ -160,6 +251,9 @@ impl Candidate {
         }
         if reply[2..] == *b"OK" && fault != Fault::RecordNotMoved {
             self.record = controller::record_after(self.record, command, fault);
+            if command == Command::ResetAlarms {
+                self.know_alarms(self.alarms.after_reset(fault));
+            }
         }
         if let (Command::SetBatch(_), b"OK") = (command, &reply[2..]) {
             self.raw_known = true;
@@ -168,6 +262,17 @@ impl Candidate {
             if !self.number_known || fault == Fault::NumberForgottenByBatch {
                 self.forget(Wide::Number);
             }
+        }
+        let alarms_forgotten = match fault {
+            Fault::ShownAlarmsForgotten => command == Command::Alarms,
+            Fault::StartTeachesNothing => command == Command::Start && reply[2..] == *b"OK",
+            Fault::AlarmRefusalTeachesNothing => {
+                command == Command::Start && reply[2..] == *b"NO09"
+            }
+            _ => false,
+        };
+        if alarms_forgotten {
+            self.know_alarms(alarms_before);
         }
         match (fault, shown) {
             (Fault::ShownValueForgotten, Some(field)) if command != Command::RecipeFactor => {
@@ -249,6 +354,32 @@ impl Candidate {
     }
 }
 
+/// What a reply tells of the alarms, if it is one to its command.
+#[derive(Clone, Copy)]
+enum Told {
+    Nothing,
+    WhetherAny(bool),
+    All(u32),
+}
+
+fn told_of_alarms(command: Command, reply: &[u8], fault: Fault) -> Told {
+    match (command, &reply[2..]) {
+        (Command::Status, status) => Told::WhetherAny(status.get(2) == Some(&b'1')),
+        (Command::StatusCodes, codes) => Told::WhetherAny(codes.starts_with(b"RS AL ")),
+        (Command::Alarms, characters) => match alarms::shown(characters) {
+            Some(alarms) => Told::All(alarms),
+            None => Told::Nothing,
+        },
+        // NO02 and NO05 come before the look at the alarms.
+        (Command::Start, b"OK") => Told::WhetherAny(false),
+        (Command::Start, b"NO09") => Told::WhetherAny(true),
+        (Command::Start, b"NO05") if fault == Fault::PhaseRefusalTeachesNoAlarm => {
+            Told::WhetherAny(false)
+        }
+        _ => Told::Nothing,
+    }
+}
+
 /// Whether a reply's text is the one that a record gives to a command.
 fn agrees(record: &Record, command: Command, reply: &[u8], fault: Fault) -> bool {
     match controller::answer(record, command, fault) {
@@ -306,6 +437,7 @@ fn keep_agreeing(candidates: &mut Vec<Candidate>, request: &[u8], reply: &[u8], 
             return candidates.clear();
         }
     }
+    let told = told_of_alarms(command, text, fault);
     candidates.retain_mut(|candidate| match command {
         Command::Level(place) | Command::WriteValue(place, _) | Command::WriteLevel(place, _) => {
             candidate.step_each_level(command, place, text, fault)
@@ -313,9 +445,9 @@ fn keep_agreeing(candidates: &mut Vec<Candidate>, request: &[u8], reply: &[u8], 
         _ if fault == Fault::PhaseRefusalAlone && text[2..] == *b"NO05" => {
             let mut without_keypad = candidate.clone();
             without_keypad.record.keypad = false;
-            without_keypad.step(command, text, fault)
+            without_keypad.step(command, text, told, fault)
         }
-        _ => candidate.step(command, text, fault),
+        _ => candidate.step(command, text, told, fault),
     });
     // Writes make different records equal; reads do not.
     if !command.is_read() && text[2..] == *b"OK" {

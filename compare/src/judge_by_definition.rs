@@ -3,13 +3,16 @@
 //!
 //! A recording of few commands looks at few fields. Those are enumerated in full but for the wide
 //! ones, of which the numbers in the recording (for the batch number, also as they stood some batches
-//! before) and one other are taken.
+//! before) and one other are taken; and for the alarms, of which those that the recording shows are
+//! taken, each also as it may have been before AR, and one of each sort.
 
+use crate::alarms;
 use crate::command::Command;
 use crate::controller::{self, Outcome, Request};
 use crate::fault::{Fault, PLANTED};
-use crate::frame::Kind;
-use crate::generate::recordings;
+use crate::frame::{self, Kind};
+use crate::generate::recordings::{self, Exchanges};
+use crate::generate::{records, requests};
 use crate::judge::{judge, Judgement};
 use crate::random::Random;
 use crate::record::{factor_place, Phase, Record, PARAMETERS, RECIPES};
@@ -61,6 +64,22 @@ fn shown_numbers(exchanges: &[Exchange]) -> Vec<u32> {
     numbers
 }
 
+/// The alarms to start with: two starts that show the same, or that show nothing in this recording,
+/// differ only in whether any alarm is on and whether a lasting one is.
+fn starting_alarms(exchanges: &[Exchange]) -> Vec<u32> {
+    let (resettable, lasting) = (alarms::numbered(12), alarms::numbered(1));
+    let mut starts = vec![0, resettable, lasting, resettable | lasting];
+    for exchange in exchanges {
+        let text = frame::open(Kind::Minicomputer, exchange.reply, Fault::None);
+        if let Some(shown) = text.ok().and_then(|text| alarms::shown(&text[2..])) {
+            starts.extend([shown, shown | resettable]);
+        }
+    }
+    starts.sort_unstable();
+    starts.dedup();
+    starts
+}
+
 /// Every record with one more field taken through these numbers.
 fn spread<Number: Copy>(
     records: Vec<Record>,
@@ -108,6 +127,16 @@ fn starting_records(address: u8, access: u8, exchanges: &[Exchange]) -> Option<V
         records = spread(records, &flags, |record, on| record.changed = on);
         records = spread(records, &flags, |record, on| record.batch_reset = on);
         records = spread(records, &flags, |record, on| record.power_fail = on);
+    }
+    if asks(&[
+        Command::Status,
+        Command::StatusCodes,
+        Command::Alarms,
+        Command::Start,
+    ]) {
+        records = spread(records, &starting_alarms(exchanges), |record, alarms| {
+            record.alarms = alarms;
+        });
     }
     if asks(&[Command::Recipe, Command::RecipeFactor]) {
         let recipes: Vec<u8> = (1..=RECIPES).collect();
@@ -229,6 +258,41 @@ fn longer_recordings() {
     assert!(fits > 50 && refuted > 50, "{fits} fit, {refuted} refuted");
 }
 
+/// Judges every sequence of up to five of these exchanges both ways, as long as it fits; answers how
+/// many.
+fn compare_sequences(exchanges: &Exchanges, before: &mut Exchanges) -> usize {
+    let mut judged = 0;
+    for exchange in exchanges {
+        before.push(exchange.clone());
+        let bytes = recording::build(1, 2, before);
+        let answer = judge(&bytes, Fault::None);
+        assert_eq!(Some(answer), by_definition(&bytes), "{bytes:02X?}");
+        judged += 1;
+        if matches!(answer, Judgement::Fits { .. }) && before.len() < 5 {
+            judged += compare_sequences(exchanges, before);
+        }
+        before.pop();
+    }
+    judged
+}
+
+#[test]
+fn sequences_about_alarms() {
+    let exchanges = [
+        ("EQ", "100000"),
+        ("EQ", "101000"),
+        ("EA", "80000"),
+        ("EA", "80100"),
+        ("AR", "OK"),
+        ("SA", "OK"),
+        ("SA", "NO09"),
+    ];
+    let text = |text: &str| frame::framed(Kind::Minicomputer, format!("01{text}").as_bytes());
+    let exchanges = exchanges.map(|(request, reply)| (text(request), text(reply)));
+    let judged = compare_sequences(&exchanges.to_vec(), &mut vec![]);
+    assert!(judged > 1_000, "{judged}");
+}
+
 /// Minutes long; run with `--ignored`.
 #[test]
 #[ignore]
@@ -261,7 +325,8 @@ fn faults_of_the_judge_are_noticed() {
 fn honest_recordings_fit() {
     let mut random = Random::new(3);
     for _ in 0..100 {
-        let bytes = recordings::long(&mut random, 3_000);
+        let record = records::record(&mut random);
+        let bytes = recordings::long(&mut random, record, requests::command, 3_000);
         let count = recording::read(&bytes, Fault::None)
             .unwrap()
             .exchanges

@@ -16,7 +16,7 @@ mod declared {
             reply: *mut u8,
             reply_length: usize,
         ) -> u32;
-        fn khuyapesh_panel(event: u8, pulses: u16, stored: *mut u8, stored_length: usize) -> u32;
+        fn khuyapesh_panel(event: u8, number: u16, stored: *mut u8, stored_length: usize) -> u32;
         fn khuyapesh_stored(
             stored: *const u8,
             stored_length: usize,
@@ -60,9 +60,9 @@ mod declared {
         }
     }
 
-    pub fn panel(event: u8, pulses: u16, stored: &mut [u8]) -> u32 {
+    pub fn panel(event: u8, number: u16, stored: &mut [u8]) -> u32 {
         // SAFETY: pointer and length of a live slice.
-        unsafe { khuyapesh_panel(event, pulses, stored.as_mut_ptr(), stored.len()) }
+        unsafe { khuyapesh_panel(event, number, stored.as_mut_ptr(), stored.len()) }
     }
 
     pub fn stored(stored: &[u8], out: &mut [u8]) -> u32 {
@@ -111,8 +111,8 @@ mod stand_in {
         interface::call(kind, stored, request, reply, Fault::None)
     }
 
-    pub fn panel(event: u8, pulses: u16, stored: &mut [u8]) -> u32 {
-        interface::panel(event, pulses, stored, Fault::None)
+    pub fn panel(event: u8, number: u16, stored: &mut [u8]) -> u32 {
+        interface::panel(event, number, stored, Fault::None)
     }
 
     pub fn stored(stored: &[u8], out: &mut [u8]) -> u32 {

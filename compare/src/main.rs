@@ -1,7 +1,8 @@
-//! An independent second program for document 01, compared with the proved library.
+//! An independent second program for documents 01 and 02, compared with the proved library.
 
 #![deny(unsafe_code)]
 
+mod alarms;
 mod benchmark;
 mod command;
 mod comparison;

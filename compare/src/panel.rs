@@ -1,5 +1,6 @@
 //! What the panel does to the record.
 
+use crate::alarms;
 use crate::fault::Fault;
 use crate::record::{Phase, Record, HIGHEST_RAW};
 
@@ -10,6 +11,9 @@ pub enum Event {
     KeypadOn,
     KeypadOff,
     PowerBack,
+    /// The alarm with this number; another number than an alarm's changes nothing.
+    AlarmOn(u16),
+    AlarmOff(u16),
 }
 
 /// The record after an event; one that is not valid comes back unchanged.
@@ -53,7 +57,16 @@ pub fn after(mut record: Record, event: Event, fault: Fault) -> Record {
             if record.phase == Phase::Running && fault != Fault::PowerBackKeepsRunning {
                 record.phase = Phase::Stopped;
             }
+            if fault == Fault::PowerBackRaisesAlarm {
+                record.alarms |= alarms::numbered(12);
+            }
         }
+        Event::AlarmOn(20) if fault == Fault::AlarmTwentyRaised => {
+            record.alarms |= alarms::numbered(19);
+        }
+        Event::AlarmOn(number) => record.alarms |= alarms::numbered(number),
+        Event::AlarmOff(_) if fault == Fault::AllAlarmsCleared => record.alarms = 0,
+        Event::AlarmOff(number) => record.alarms &= !alarms::numbered(number),
     }
     record
 }
@@ -96,5 +109,31 @@ mod tests {
         assert_eq!(Phase::ALL.map(keypad), [true, false, false, false, true]);
         let back = after(running(0, 9), Event::PowerBack, Fault::None);
         assert!(back.power_fail && back.phase == Phase::Stopped);
+        assert_eq!(back.alarms, 0);
+    }
+
+    #[test]
+    fn alarms_by_number() {
+        let happens = |record, event| after(record, event, Fault::None);
+        for number in 1..=alarms::HIGHEST_ALARM {
+            let raised = happens(running(5, 10), Event::AlarmOn(number));
+            let expected = Record {
+                alarms: alarms::numbered(number),
+                ..running(5, 10)
+            };
+            assert_eq!(raised, expected);
+            assert_eq!(happens(raised, Event::AlarmOn(number)), raised);
+            assert_eq!(happens(raised, Event::AlarmOff(number)), running(5, 10));
+            let other = number % alarms::HIGHEST_ALARM + 1;
+            assert_eq!(happens(raised, Event::AlarmOff(other)), raised);
+        }
+        for number in [0, 20, 24, 257, 65_535] {
+            let record = Record {
+                alarms: alarms::LASTING,
+                ..Record::low()
+            };
+            assert_eq!(happens(record, Event::AlarmOn(number)), record);
+            assert_eq!(happens(record, Event::AlarmOff(number)), record);
+        }
     }
 }

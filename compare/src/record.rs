@@ -1,5 +1,7 @@
 //! The controller's record, the ranges of its fields and its validity.
 
+use crate::alarms;
+
 #[derive(Clone, Copy, PartialEq, Eq, PartialOrd, Ord, Debug)]
 pub enum Phase {
     Idle,
@@ -42,6 +44,8 @@ pub struct Record {
     pub preset: u32,
     pub raw: u32,
     pub number: u16,
+    /// Those that are on.
+    pub alarms: u32,
     /// In rising code.
     pub parameters: [Parameter; PARAMETERS],
 }
@@ -108,7 +112,7 @@ pub fn value_in_range(place: usize, value: u32) -> bool {
 }
 
 impl Record {
-    /// Every field at its low end, Idle and flags off.
+    /// Every field at its low end, Idle, flags and alarms off.
     pub fn low() -> Record {
         Record {
             address: 1,
@@ -123,6 +127,7 @@ impl Record {
             preset: 0,
             raw: 0,
             number: 1,
+            alarms: 0,
             parameters: VALUE_RANGES.map(|(low, _)| Parameter {
                 value: low,
                 level: 0,
@@ -137,6 +142,7 @@ impl Record {
             && self.preset <= HIGHEST_PRESET
             && self.raw <= HIGHEST_RAW
             && (1..=HIGHEST_NUMBER).contains(&self.number)
+            && self.alarms <= alarms::ALL
             && self
                 .parameters
                 .iter()
@@ -168,6 +174,11 @@ mod tests {
         assert!(Record::low().is_valid());
         assert!(!Record {
             recipe: 9,
+            ..Record::low()
+        }
+        .is_valid());
+        assert!(!Record {
+            alarms: alarms::ALL + 1,
             ..Record::low()
         }
         .is_valid());

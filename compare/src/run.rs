@@ -85,6 +85,31 @@ fn out_buffer(random: &mut Random, least: usize) -> Vec<u8> {
     random.bytes(length)
 }
 
+/// One panel event, seldom one that there is not or over any stored bytes; answers the stored record
+/// to go on with.
+fn one_event(
+    comparison: &mut Comparison,
+    random: &mut Random,
+    record: Vec<u8>,
+) -> Result<Vec<u8>, Difference> {
+    let event = if random.percent(2) {
+        random.byte()
+    } else {
+        random.below(7) as u8
+    };
+    // Counts of pulses, and numbers of alarms or about them.
+    let number = match random.below(3) {
+        0 => random.between(0, 20) as u16,
+        1 => random.between(0, 80) as u16,
+        _ => random.next() as u16,
+    };
+    if random.percent(2) {
+        comparison.panel(event, number, &stored_forms::stored_form(random))?;
+        return Ok(record);
+    }
+    comparison.panel(event, number, &record)
+}
+
 /// One call and now and then a panel event; answers the stored record to go on with.
 fn one_call(
     comparison: &mut Comparison,
@@ -95,24 +120,14 @@ fn one_call(
         record = stored::form(&records::record(random)).to_vec();
     }
     if random.percent(25) {
-        let event = if random.percent(2) {
-            random.byte()
-        } else {
-            random.below(5) as u8
-        };
-        let pulses = match random.below(3) {
-            0 => random.between(0, 3) as u16,
-            1 => random.between(0, 80) as u16,
-            _ => random.next() as u16,
-        };
-        record = comparison.panel(event, pulses, &record)?;
+        record = one_event(comparison, random, record)?;
     }
     let kind = random.pick(&[Kind::Minicomputer, Kind::Terminal]);
     let mut kind_number = kind as u8;
     if random.percent(1) {
         kind_number = random.byte();
     }
-    let request = requests::request(random, kind, record[3]);
+    let request = requests::request(random, kind, record[3], requests::command);
     let reply = out_buffer(random, 64);
     if random.percent(2) {
         let form = stored_forms::stored_form(random);
@@ -137,7 +152,7 @@ fn host_side(comparison: &mut Comparison, random: &mut Random) -> Result<(), Dif
             comparison.read_and_build(kind_number, &frame, &out)
         }
         _ => {
-            let frame = requests::request(random, kind, 1);
+            let frame = requests::request(random, kind, 1, requests::command);
             comparison.read_and_build(kind_number, &frame, &out)
         }
     }

@@ -1,11 +1,15 @@
-//! The worked examples of document 01, starred and not, on this program.
+//! The worked examples of document 01, starred and not, and the sentences of document 02, on this
+//! program.
 
+use crate::alarms;
 use crate::controller::{self, Outcome};
 use crate::fault::Fault;
 use crate::frame::{framed, Kind};
 use crate::judge::{judge, Judgement};
-use crate::record::{factor_place, parameter_place, Record};
+use crate::record::{factor_place, parameter_place, Phase, Record};
 use crate::recording;
+use std::fs;
+use std::path::Path;
 
 fn bench_record() -> Record {
     let mut record = Record {
@@ -68,6 +72,18 @@ fn recorded(exchanges: &[(&str, &str)]) -> Vec<u8> {
 
 fn judged(exchanges: &[(&str, &str)]) -> Judgement {
     judge(&recorded(exchanges), Fault::None)
+}
+
+fn fits(exchanges: &[(&str, &str)]) -> bool {
+    let count = exchanges.len();
+    judged(exchanges) == Judgement::Fits { count }
+}
+
+/// Whether it is the last exchange that is refuted.
+fn refuted_at_last(exchanges: &[(&str, &str)]) -> bool {
+    let count = exchanges.len();
+    let place = count;
+    judged(exchanges) == Judgement::Refuted { place, count }
 }
 
 #[test]
@@ -156,12 +172,6 @@ fn recordings() {
 
 #[test]
 fn traps_of_the_judge() {
-    let fits = |exchanges: &[(&str, &str)]| {
-        judged(exchanges)
-            == Judgement::Fits {
-                count: exchanges.len(),
-            }
-    };
     // A level above the access is refused whatever the parameter's level, with the keypad off.
     assert!(fits(&[("XC 032 3", "NO07"), ("XV 032", "XV 032 0")]));
     assert!(!fits(&[("XC 032 3", "NO07"), ("SA", "NO02")]));
@@ -186,4 +196,191 @@ fn traps_of_the_judge() {
     assert!(fits(&[&batch[..], &[("TN", "TN 0002")]].concat()));
     assert!(!fits(&[&batch[..], &[("TN", "TN 0001")]].concat()));
     assert!(!fits(&[("SB 1", "OK"), ("RT R", "RT R 00000001")]));
+}
+
+fn with_alarms(phase: Phase, numbers: &[u16]) -> Record {
+    Record {
+        phase,
+        alarms: numbers
+            .iter()
+            .fold(0, |set, &number| set | alarms::numbered(number)),
+        ..bench_record()
+    }
+}
+
+#[test]
+fn alarms_on_the_link() {
+    ask(bench_record(), "EA", "00000");
+    // RAM Corrupt, Powerfail and Overrun; AR leaves the first and the last.
+    let record = ask(with_alarms(Phase::Idle, &[1, 12, 19]), "EA", "80101");
+    let record = ask(record, "EQ", "001000");
+    let record = ask(record, "RS", "RS AL ");
+    let record = ask(record, "AR", "OK");
+    assert_eq!(record, with_alarms(Phase::Idle, &[1, 19]));
+    let record = ask(record, "EA", "80001");
+    let record = ask(record, "AR", "OK");
+    assert_eq!(record, with_alarms(Phase::Idle, &[1, 19]));
+    // All that AR switches off.
+    let record = with_alarms(Phase::Stopped, &[9, 10, 11, 12, 15, 16]);
+    let record = ask(record, "EA", "00?30");
+    let record = ask(record, "SA", "NO09");
+    let record = ask(record, "AR", "OK");
+    let record = ask(record, "EA", "00000");
+    let record = ask(record, "RS", "RS TP ");
+    assert_eq!(ask(record, "SA", "OK").phase, Phase::Running);
+    // AL is first, and alarms leave all else as it was.
+    let record = Record {
+        flow: true,
+        ..with_alarms(Phase::Done, &[13])
+    };
+    let record = ask(record, "RS", "RS AL FL TD ");
+    let record = ask(record, "SB 500", "OK");
+    assert_eq!(ask(record, "ET", "OK").alarms, alarms::numbered(13));
+}
+
+#[test]
+fn alarms_refused() {
+    for number in 1..=alarms::HIGHEST_ALARM {
+        for phase in Phase::ALL {
+            let record = with_alarms(phase, &[number]);
+            let refusal = match phase {
+                Phase::Set | Phase::Stopped => "NO09",
+                _ => "NO05",
+            };
+            assert_eq!(ask(record, "SA", refusal), record);
+            let keypad = Record {
+                keypad: true,
+                ..record
+            };
+            assert_eq!(ask(keypad, "SA", "NO02"), keypad);
+            assert_eq!(ask(keypad, "AR", "NO02"), keypad);
+        }
+    }
+    let record = with_alarms(Phase::Running, &[12]);
+    for text in [
+        "EA ", "EAX", "EA SY", "EA M1", "AR ", "ARX", "AR AA", "AR PA SY",
+    ] {
+        assert_eq!(ask(record, text, "NO01"), record);
+    }
+    // No phase and no access is asked for, and there may be nothing to switch off.
+    let locked = Record {
+        access: 0,
+        ..record
+    };
+    assert_eq!(ask(locked, "AR", "OK").alarms, 0);
+    ask(bench_record(), "AR", "OK");
+}
+
+/// The record is not valid with more than the nineteen.
+#[test]
+fn alarms_out_of_range() {
+    let record = Record {
+        alarms: alarms::ALL + 1,
+        ..bench_record()
+    };
+    let request = framed(Kind::Minicomputer, b"01EA");
+    assert_eq!(call(record, &request), (vec![], record));
+}
+
+#[test]
+fn judge_of_alarms() {
+    let [alarm, none] = [("EQ", "001000"), ("EQ", "000000")];
+    let reset = ("AR", "OK");
+    // After an alarm in EQ and AR any of the lasting may be on, or none.
+    assert!(fits(&[alarm, reset, alarm]));
+    assert!(fits(&[alarm, reset, none]));
+    for left in ["00000", "80000", "00004", "??0<7"] {
+        assert!(fits(&[alarm, reset, ("EA", left)]), "{left}");
+    }
+    for left in ["00100", "00020", "????7", "00008"] {
+        assert!(refuted_at_last(&[alarm, reset, ("EA", left)]), "{left}");
+    }
+    assert!(refuted_at_last(&[none, reset, alarm]));
+    assert!(refuted_at_last(&[alarm, none]));
+    assert!(refuted_at_last(&[alarm, ("EA", "00000")]));
+    // An alarm after AR is a lasting one, and no further AR takes it off.
+    for resets in 0..3 {
+        let known = [&[reset, alarm][..], &vec![reset; resets]].concat();
+        assert!(fits(&[&known[..], &[alarm]].concat()));
+        assert!(refuted_at_last(&[&known[..], &[none]].concat()));
+        assert!(refuted_at_last(&[&known[..], &[("RS", "RS ")]].concat()));
+        assert!(refuted_at_last(&[&known[..], &[("EA", "00000")]].concat()));
+        assert!(fits(&[&known[..], &[("EA", "00040")]].concat()));
+    }
+    // What EA showed goes on, without those that AR switches off.
+    assert!(fits(&[("EA", "80101"), reset, ("EA", "80001")]));
+    assert!(refuted_at_last(&[("EA", "80101"), reset, ("EA", "80101")]));
+    assert!(refuted_at_last(&[("EA", "80101"), reset, none]));
+    assert!(refuted_at_last(&[("EA", "00?30"), reset, alarm]));
+    // A refused AR switches nothing off and tells nothing of the alarms.
+    let keypad = ("AR", "NO02");
+    assert!(fits(&[("EA", "00100"), keypad, ("EA", "00100")]));
+    assert!(refuted_at_last(&[keypad, reset]));
+    // EQ, RS and EA tell the same.
+    assert!(refuted_at_last(&[("RS", "RS AL "), none]));
+    assert!(refuted_at_last(&[("RS", "RS "), alarm]));
+    assert!(refuted_at_last(&[("RS", "RS FL AL ")]));
+}
+
+#[test]
+fn judge_of_a_start_refused_by_alarms() {
+    // SA's OK tells that no alarm is on.
+    for after in [("EQ", "581000"), ("RS", "RS AL TP RL "), ("EA", "00100")] {
+        assert!(refuted_at_last(&[("SA", "OK"), after]));
+    }
+    assert!(fits(&[("SA", "OK"), ("EQ", "580000"), ("EA", "00000")]));
+    // SA's NO09 tells that one is on, that the keypad is off and that the phase is Set or Stopped.
+    let refused = ("SA", "NO09");
+    for after in [
+        ("EA", "00000"),
+        ("RS", "RS "),
+        ("SA", "OK"),
+        ("SA", "NO02"),
+        ("SA", "NO05"),
+        ("RS", "RS AL PW "),
+        ("RS", "RS AL TD "),
+        ("RS", "RS AL TP RL "),
+        ("SP", "OK"),
+        ("SB 1", "OK"),
+        ("ET", "NO05"),
+    ] {
+        assert!(refuted_at_last(&[refused, after]), "{after:?}");
+    }
+    for after in [
+        ("EA", "00100"),
+        ("RS", "RS AL "),
+        ("RS", "RS AL TP "),
+        ("ET", "OK"),
+        ("AR", "OK"),
+    ] {
+        assert!(fits(&[refused, after]), "{after:?}");
+    }
+    assert!(fits(&[refused, ("AR", "OK"), ("SA", "OK")]));
+    assert!(fits(&[refused, ("AR", "OK"), refused]));
+    let lasting = [refused, ("AR", "OK"), refused, ("AR", "OK")];
+    assert!(refuted_at_last(&[&lasting[..], &[("SA", "OK")]].concat()));
+    // The keypad and the phase come first, and those refusals tell nothing of the alarms.
+    for refusal in ["NO02", "NO05"] {
+        for alarms in ["00000", "00100"] {
+            assert!(fits(&[("SA", refusal), ("EA", alarms)]));
+        }
+    }
+}
+
+/// The answers that the example recordings are given beside them.
+#[test]
+fn example_recordings() {
+    let root = Path::new(env!("CARGO_MANIFEST_DIR")).join("..");
+    let expected = fs::read_to_string(root.join("examples/expected")).unwrap();
+    assert!(!expected.is_empty());
+    for line in expected.lines() {
+        let (file, answer) = line.split_once(": ").unwrap();
+        let bytes = fs::read(root.join(file)).unwrap();
+        let judged = match judge(&bytes, Fault::None) {
+            Judgement::Fits { count } => format!("fits {count}"),
+            Judgement::Refuted { place, count } => format!("refuted at {place} of {count}"),
+            Judgement::Refused(number) => format!("refused J{number}"),
+        };
+        assert_eq!(judged, answer, "{file}");
+    }
 }

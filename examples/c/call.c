@@ -1,4 +1,5 @@
-/* Calls the controller for a record that is stored in bytes, prints each reply's text, and judges what was said. C99 and C++. */
+/* Raises an alarm in a record that is stored in bytes, calls the controller for it, prints each reply's text, and judges what
+ * was said. C99 and C++. */
 #include <stdio.h>
 #include <string.h>
 
@@ -51,6 +52,11 @@ int main(void)
     /* no bytes are no record: K1, and the low one is written (address 1, access 0) */
     if (khuyapesh_stored(&none, 0, stored, sizeof stored) != KHUYAPESH_STORED + 1)
         return 1;
+    /* the power-fail alarm */
+    if (khuyapesh_panel(KHUYAPESH_ALARM_ON, 12, stored, sizeof stored) != KHUYAPESH_DONE)
+        return 1;
+    ask("01EA");
+    ask("01AR");
     ask("01EQ");
     ask("01NR 03");
     ask("01RR");

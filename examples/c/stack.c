@@ -16,7 +16,8 @@ static int expected = 1;
 /* Every function, and requests that are read, written and refused, their replies recorded and judged. */
 static void work(void)
 {
-    static const char *const texts[] = {"01EQ", "01RS", "01RC", "01PC 032 10150", "01XC 011 0", "01SB 500", "01SA", "01QQ"};
+    static const char *const texts[] = {"01EQ", "01RS", "01RC", "01PC 032 10150", "01XC 011 0", "01SB 500", "01SA", "01QQ",
+                                        "01EA", "01AR"};
     static uint8_t stored[KHUYAPESH_STORED_LENGTH], copy[KHUYAPESH_STORED_LENGTH];
     static uint8_t request[KHUYAPESH_FRAME_ROOM], reply[KHUYAPESH_FRAME_ROOM], text[KHUYAPESH_FRAME_ROOM];
     static uint8_t recording[2048];
@@ -41,6 +42,7 @@ static void work(void)
     recording[3] = 1;
     expected &= khuyapesh_judge(recording, recorded, &place, &count) == KHUYAPESH_FITS;
     expected &= khuyapesh_panel(KHUYAPESH_PULSES, 500, stored, sizeof stored) == KHUYAPESH_DONE;
+    expected &= khuyapesh_panel(KHUYAPESH_ALARM_ON, 19, stored, sizeof stored) == KHUYAPESH_DONE;
     expected &= khuyapesh_stored(stored, sizeof stored, copy, sizeof copy) == KHUYAPESH_DONE;
 }
 

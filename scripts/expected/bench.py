@@ -1,7 +1,7 @@
 #!/usr/bin/env python3
 """The input and the expected output of the program `bench`: crates/bench/stdin and crates/bench/stdout.
 
-Worked out from document 01 and from none of the Rattle code: record.py and link.py have its rules, cases.py the cases.
+Worked out from documents 01 and 02 and from none of the Rattle code: record.py and link.py have their rules, cases.py the cases.
 
     scripts/expected/bench.py            writes both files
     scripts/expected/bench.py --check    says whether they are what it makes
@@ -22,8 +22,8 @@ FILL = b"\xee"
 
 def shown(r):
     digits = "".join(str(int(getattr(r, name))) for name in record.FLAGS)
-    fields = (r.address, r.access, r.recipe, r.preset, r.raw, r.number)
-    return "%d%s" % (record.PHASES.index(r.phase), digits) + " @%d A%d R%d P%d W%d N%d" % fields
+    fields = (r.address, r.access, r.recipe, r.preset, r.raw, r.number, r.alarms)
+    return "%d%s" % (record.PHASES.index(r.phase), digits) + " @%d A%d R%d P%d W%d N%d L%d" % fields
 
 
 def kept(buffer, start):
@@ -76,7 +76,7 @@ class Bench:
 
     def load(self, stored):
         refusal, self.record = record.read(stored)
-        return (refusal or str(record.LENGTH)) + " " + shown(self.record)
+        return (refusal or str(len(stored))) + " " + shown(self.record)
 
     def gets(self, line):
         """What a line gets, or None."""
@@ -94,8 +94,8 @@ class Bench:
             self.room = int(rest)
             return None
         if word == "panel":
-            event, _, count = rest.partition(" ")
-            self.record = record.after(r, event, int(count)) if event == "pulses" else record.after(r, rest)
+            event, _, count = rest.rpartition(" ")
+            self.record = record.after(r, event, int(count)) if count.isdigit() else record.after(r, rest)
             return shown(self.record)
         if word == "?":
             return shown(r)

@@ -1,17 +1,20 @@
 """The cases of the program `bench`, as the lines of its input."""
 from link import frame_of
-from record import RANGES, Record, bench, form_of
+from record import EVERY_ALARM, RANGES, RESETTABLE, Record, alarm, bench, form_of
 
 LINES = []
 
 # what the input says first
 LEGEND = """\
-Document 01's examples, limits and traps: one case to a line. Each is written back with what it gets behind "->".
+Examples, limits and traps of documents 01 and 02: one case to a line. Each is written back with what it gets behind "->".
   = PKFCBX          the bench record in phase P (0 Idle, 1 Set, 2 Running, 3 Stopped, 4 Done),
                     with keypad, flow, changed, batch reset and power fail off (0) or on (1)
-  set address N     the record with this field, valid or not; also access, recipe, raw, and 032 for that parameter's value
-  panel pulses N    the record after what the panel does; also still, keypad on, keypad off, power back
-  ?                 the record: PKFCBX as above, address @, access A, recipe R, preset P, raw W, batch number N
+  set address N     the record with this field, valid or not; also access, recipe, raw, alarms (as behind L), and 032 for
+                    that parameter's value
+  panel pulses N    the record after what the panel does; also still, keypad on, keypad off, power back,
+                    alarm on N and alarm off N for the alarm with that number
+  ?                 the record: PKFCBX as above, address @, access A, recipe R, preset P, raw W, batch number N,
+                    alarms L (a number of nineteen bits, alarm 1 the highest)
   into N            buffers that are lent from here on have N bytes, each ee before
   M "TEXT"          one call, minicomputer, with the frame of the text: the reply's text and its bytes
   M 02 30 ..        one call, minicomputer, with these bytes
@@ -21,7 +24,7 @@ Document 01's examples, limits and traps: one case to a line. Each is written ba
                     the frame of the NNN bytes from the second on, built in the buffer that is given: its length, and the buffer
   read M 02 30 ..   the text's bytes; then the length of the text that is located; then the unit's address and the text's length
   write             the record's stored form
-  load 01 00 ..     the record that is read from stored bytes: how many were read, and the record
+  load 02 00 ..     the record that is read from stored bytes of either version: how many were read, and the record
   change NNN N      the same of the present record's form with the byte at place NNN changed to N
 A silence or refusal has its number in place of what is got. +N counts the bytes of a lent buffer behind that are as before.
 """
@@ -203,6 +206,7 @@ def forms():
     start()
     ask("ZZ", "ZZX", "ZZ ", "ZZ 032 5", "QE", "AA", "CP 032 5", "RX R")
     ask("EQX", "EQ X", "EQ  ", "RS ", "TN1", "RR 01", "RC 03", "SA ", "SP 1", "ET ET")
+    ask("EAX", "EA ", "EA 1", "EA SY", "EA M1", "ARX", "AR ", "AR 1", "AR AA", "AR PA SY", "AE", "RA")
 
     section("S7 and not NO00 for a code that is not two capitals (decision 2)")
     ask("zz", "Z1", "..")
@@ -279,7 +283,7 @@ def states():
     for phase in range(5):
         start("%d10000" % phase)
         ask("PC 032 9000", "XC 032 1", "NR 04", "NR 00", "SB 500", "SB 0", "SA", "ET", "RE BD", "RE PC", "RE PF", "EQ", "TN", "RR", "RC")
-        ask("RT R", "PV 032", "XV 032", "SP", "EQ")
+        ask("AR", "AR ", "EA", "RT R", "PV 032", "XV 032", "SP", "EQ")
         show()
 
     section("NO05: each command in each phase")
@@ -305,6 +309,89 @@ def states():
     start("401101")
     ask("SB 7")
     show()
+
+
+# ---- alarms
+
+
+def raised(*numbers):
+    for number in numbers:
+        happens("alarm on %d" % number)
+
+
+def alarms():
+    section("EA: none, and each alarm by itself; AR switches off 9 to 12, 15 and 16")
+    start()
+    ask("EA", "EQ", "RS", "AR", "EA")
+    for number in range(1, 20):
+        start()
+        raised(number)
+        ask("EA", "AR", "EA")
+
+    section("EA: all at once, then all but each")
+    start()
+    raised(*range(1, 20))
+    ask("EA", "EQ", "RS")
+    for number in range(1, 20):
+        happens("alarm off %d" % number)
+        ask("EA")
+        raised(number)
+    ask("AR", "EA", "AR", "EA")
+    ask("EA", "AR", kind="T")
+    show()
+
+    section("EQ's A3 and RS's AL, which is first, in every phase; AR and EA in every phase")
+    for phase in range(5):
+        for flags in ("00000", "11111"):
+            start("%d%s" % (phase, flags))
+            raised(12, 19)
+            ask("EQ", "RS", "AR", "EA", "EQ", "RS")
+            show()
+
+    section("NO09, behind NO05 and NO02: SA in every phase, for an alarm that lasts and for one that AR switches off")
+    for number in (19, 12):
+        for phase in range(5):
+            start("%d00000" % phase)
+            raised(number)
+            ask("SA", "AR", "SA")
+            show()
+    start("110000")
+    raised(1)
+    ask("SA", "AR", "SA ")
+    happens("keypad off")
+    ask("SA")
+    happens("alarm off 1")
+    ask("SA")
+    show()
+
+    section("AR: no access and no phase is asked for, and no other command or event touches an alarm")
+    start("200000")
+    field("access", 0)
+    raised(9, 13)
+    ask("AR", "EA")
+    start("001110")
+    raised(9, 13)
+    ask("SB 500", "SA", "ET", "RE BD", "RE PC", "NR 04", "PC 042 9000", "XC 042 2", "EA")
+    happens("pulses 7", "still", "keypad on", "keypad off", "power back")
+    ask("EA")
+
+    section("The panel raises and clears one alarm: twice, in every phase, and numbers that no alarm has")
+    for phase in range(5):
+        start("%d00000" % phase)
+        happens("alarm on 1", "alarm on 1", "alarm on 19", "alarm off 2", "alarm off 1", "alarm off 1", "alarm off 19")
+    for name, before in (("None on", ["= 000000"]), ("All on", EVERY_ALARM_ON)):
+        once(name, before)
+        for number in (0, 20, 21, 32, 255, 257, 65535):
+            happens("alarm on %d" % number, "alarm off %d" % number)
+
+    section("A record with other alarms than the nineteen is not valid")
+    start()
+    field("alarms", EVERY_ALARM)
+    ask("EA")
+    field("alarms", EVERY_ALARM + 1)
+    ask("EA", "AR", "EQ")
+    happens("alarm on 1", "alarm off 1", "power back")
+    with_room(183, "write")
 
 
 # ---- what commands change
@@ -343,7 +430,7 @@ def changes():
 
 # ---- the panel
 
-EVENTS = ("pulses 0", "pulses 1", "pulses 65535", "still", "keypad on", "keypad off", "power back")
+EVENTS = ("pulses 0", "pulses 1", "pulses 65535", "still", "keypad on", "keypad off", "power back", "alarm on 3", "alarm off 3")
 
 
 def happens(*events):
@@ -356,6 +443,8 @@ TO_SET = ["= 000000", 'M "01SB 500"']
 TO_RUNNING = TO_SET + ['M "01SA"']
 TO_STOPPED = TO_RUNNING + ["panel pulses 499", 'M "01SP"']
 TO_DONE = TO_RUNNING + ["panel pulses 500"]
+
+EVERY_ALARM_ON = ["= 000000", "set alarms %d" % EVERY_ALARM]
 
 
 def each_event(name, before):
@@ -428,33 +517,50 @@ def panel():
 
 def stored():
     form = form_of(bench())
+    old = form_of(bench(), 1)
     section("The bench record, stored; and read back, every value and level")
     start()
+    with_room(183, "write")
     with_room(180, "write")
-    with_room(177, "write")
     line("load" + spaced(form))
     for code in sorted(RANGES):
         ask("PV %03d" % code, "XV %03d" % code)
 
+    section("Version 1 is read as no alarms, and written as version 2")
+    line("load" + spaced(form_of(bench().but(alarms=EVERY_ALARM), 1)))
+    ask("EA", "EQ", "PV 011", "XV 011", "PV 032", "PV 808", "XV 808")
+    with_room(180, "write")
+
     section("Other records, stored")
-    line("into 180")
+    line("into 183")
     once("keypad on", ["= 000000"], "panel keypad on", "write")
     once("changed", ["= 000100"], "write")
     once("Running", ["= 000000", 'M "01SB 123456"', 'M "01SA"', "panel pulses 54321"], "write")
     once("the highest raw", [], "set raw 99999999", "write", "set raw 54321")
     once("power back", [], "panel power back", "write")
     once("Set, and Done", ["= 100000"], "write", "= 400000", "write")
-    once("every field at its high end", [], "load" + spaced(form_of(highest())), "write")
+    once("every field at its high end", [], "load" + spaced(form_of(highest())), "write", 'M "99EA"')
+    once("what AR switches off", ["= 000000"], "set alarms %d" % RESETTABLE, "write")
+    once("what lasts", ["= 000000"], "set alarms %d" % (EVERY_ALARM - RESETTABLE), "write")
+    once("alarms 1, 12 and 19", ["= 000000"], "set alarms %d" % (alarm(1) | alarm(12) | alarm(19)), "write")
     line("into 64")
 
     section("Stored forms that are refused; beside the number is the low record")
-    once("K1: 176 bytes", ["= 000000"], "load" + spaced(form[:176]), 'M "01PV 032"', 'M "01XV 032"')
-    with_room(180, "write")
-    once("K1: 178 bytes", ["= 000000"], "load" + spaced(form + b"\xee"), 'M "01PV 032"', 'M "01XV 032"')
+    once("K1: 179 bytes", ["= 000000"], "load" + spaced(form[:179]), 'M "01PV 032"', 'M "01XV 032"')
+    with_room(183, "write")
+    once("K1: 181 bytes", ["= 000000"], "load" + spaced(form + b"\xee"), 'M "01PV 032"', 'M "01XV 032"')
     once("K1: no bytes", ["= 000000"], "load", 'M "01PV 032"', 'M "01XV 032"')
-    spoiled("K2: version 2", 0, 2)
-    spoiled("K3: length field 433", 1, 1)
-    spoiled("K3: length field 176", 2, 176)
+    once("K1: 176 and 178 bytes, version 1", ["= 000000"], "load" + spaced(old[:176]), "load" + spaced(old + b"\x00"))
+    spoiled("K2: version 3", 0, 3)
+    spoiled("K2: version 1 with the length of version 2", 0, 1)
+    once("K2, before K3: version 1 and its length field with 180 bytes", [], load_with(form, 0, 1, 0, 177))
+    once("K2: version 2 with the length of version 1", [], load_with(old, 0, 2))
+    once("K2, before K3: version 2 and its length field with 177 bytes", [], load_with(old, 0, 2, 0, 180))
+    once("K3: version 1, length field 180", [], load_with(old, 2, 180))
+    once("K4: version 1, address 0", [], load_with(old, 3, 0))
+    once("K4: version 1, the last level 4", [], load_with(old, 176, 4))
+    spoiled("K3: length field 436", 1, 1)
+    spoiled("K3: length field 177", 2, 177)
     spoiled("K4: address 0", 3, 0)
     spoiled("K4: address 100", 3, 100)
     spoiled("K4: access 4", 4, 4)
@@ -462,32 +568,41 @@ def stored():
     spoiled("K4: flag bit 32", 6, 32)
     spoiled("K4: recipe 0", 7, 0)
     spoiled("K4: recipe 9", 7, 9)
-    spoiled("K4: the factor of recipe 3 too large", 53, 255)
-    spoiled("K4: the last level 4", 176, 4)
+    spoiled("K4: the factor of recipe 3 too large", 56, 255)
+    spoiled("K4: the last level 4", 179, 4)
     spoiled("All flags, which is read", 6, 31)
+    note("The alarms' bits one by one: K4 for the reserved one and the last four")
+    for place in (17, 18, 19):
+        for bit in range(8):
+            line("= 000000")
+            line("change %03d %d" % (place, 0x80 >> bit))
+    once("K4: the reserved bit beside all alarms", EVERY_ALARM_ON, "change 019 240")
+    once("K4: the last bit beside all alarms", EVERY_ALARM_ON, "change 019 113")
+    once("All alarms, which is read", EVERY_ALARM_ON, "change 019 112")
     above("K4: preset 1000000", 10, 0x40)
     above("K4: raw 100000255", 13, 0xE1)
     above("K4: batch number 10000", 16, 0x10)
-    above("K4: 012 = 12001", 25, 0xE1)
+    above("K4: 012 = 12001", 28, 0xE1)
     once("K4: batch number 0", ["load" + spaced(form_of(Record()))], "change 016 0")
-    once("K2, before K3 and K4: version, length field and address wrong", [], load_with(form, 0, 2, 1, 1, 0))
+    once("K2, before K3 and K4: version, length field and address wrong", [], load_with(form, 0, 3, 1, 1, 0))
     once("K3, before K4: length field and address wrong", [], load_with(form, 1, 1, 1, 0))
 
     section("Writing that is refused: K5, before K6; the buffer is untouched")
     start()
-    with_room(176, "write")
+    with_room(179, "write")
+    with_room(177, "write")
     with_room(0, "write")
     field("address", 0)
-    with_room(180, "write")
-    with_room(176, "write")
+    with_room(183, "write")
+    with_room(179, "write")
     start()
     field("032", 12001)
-    with_room(180, "write")
+    with_room(183, "write")
 
 
 def highest():
     record = Record().but(address=99, access=3, phase="Done", recipe=8, preset=999999, raw=99999999, number=9999)
-    record = record.but(keypad=True, flow=True, changed=True, reset=True, powerfail=True)
+    record = record.but(keypad=True, flow=True, changed=True, reset=True, powerfail=True, alarms=EVERY_ALARM)
     for code, (_, high) in RANGES.items():
         record = record.but_parameter(code, value=high, level=3)
     return record
@@ -643,6 +758,6 @@ def lines():
     LINES.clear()
     for text in LEGEND.splitlines():
         note(text)
-    for part in (worked, silences, forms, values, states, changes, panel, stored, host):
+    for part in (worked, silences, forms, values, states, alarms, changes, panel, stored, host):
         part()
     return list(LINES)

@@ -1,5 +1,6 @@
-"""Document 01's link: frames of either kind, the host side, the commands and one call. Written from 01 alone."""
-from record import RANGES
+"""The link of documents 01 and 02: frames of either kind, the host side, the commands and one call. Written from the documents
+alone."""
+from record import RANGES, RESETTABLE, values_of
 
 STX, ETX, PAD, STAR, CR, LF = 0x02, 0x03, 0x7F, 0x2A, 0x0D, 0x0A
 
@@ -101,7 +102,7 @@ def words(rest):
     return rest[1:].split(" ")
 
 
-ALONE = ("EQ", "RS", "TN", "RR", "RC", "SA", "SP", "ET")
+ALONE = ("EQ", "RS", "EA", "TN", "RR", "RC", "SA", "SP", "ET", "AR")
 FORMS = {code: lambda a: a == [] for code in ALONE}
 FORMS.update(
     {
@@ -146,7 +147,7 @@ def refusal(r, code, rest):
         return 6
     if code == "SB" and int(a[0]) == 0:
         return 6
-    if code in ("PC", "XC", "NR", "SB", "SA", "ET", "RE") and r.keypad:
+    if code in ("PC", "XC", "NR", "SB", "SA", "ET", "RE", "AR") and r.keypad:
         return 2
     if code in ("PC", "XC") and r.levels[parameter] > r.access:
         return 7
@@ -154,18 +155,25 @@ def refusal(r, code, rest):
         return 7
     if code in NEEDED and r.phase not in NEEDED[code]:
         return 5
+    if code == "SA" and r.alarms != 0:
+        return 9
     return None
+
+
+def characters(values):
+    return "".join(chr(0x30 + value) for value in values)
 
 
 def status(r):
     first = 8 * r.keypad + 4 * (r.phase == "Running") + 2 * r.flow + (r.phase in ("Set", "Running", "Stopped"))
     second = 8 * (r.phase in ("Running", "Stopped")) + 4 * (r.phase == "Done") + 2 * r.reset
+    third = 1 if r.alarms != 0 else 0
     fourth = 8 * r.changed + r.powerfail
-    return "".join(chr(0x30 + n) for n in (first, second, 0, fourth, 0, 0))
+    return characters([first, second, third, fourth, 0, 0])
 
 
 def codes(r):
-    table = [("FL", r.flow), ("BD", r.reset), ("PC", r.changed), ("PF", r.powerfail), ("PW", r.keypad)]
+    table = [("AL", r.alarms != 0), ("FL", r.flow), ("BD", r.reset), ("PC", r.changed), ("PF", r.powerfail), ("PW", r.keypad)]
     table += [("TD", r.phase == "Done"), ("TP", r.phase in ("Running", "Stopped")), ("RL", r.phase == "Running")]
     return "RS " + "".join(code + " " for code, shown in table if shown)
 
@@ -180,6 +188,8 @@ def command(r, code, rest):
         return status(r), r
     if code == "RS":
         return codes(r), r
+    if code == "EA":
+        return characters(values_of(r.alarms)), r
     if code == "TN":
         return "TN %04d" % r.number, r
     if code == "RR":
@@ -203,6 +213,8 @@ def command(r, code, rest):
         return "OK", r.but(phase="Set", preset=int(a[0]), raw=0, reset=True, number=number)
     if code in ("SA", "SP", "ET"):
         return "OK", r.but(phase={"SA": "Running", "SP": "Stopped", "ET": "Idle"}[code])
+    if code == "AR":
+        return "OK", r.but(alarms=r.alarms & ~RESETTABLE)
     assert code == "RE"
     return "OK", r.but(**{{"BD": "reset", "PC": "changed"}[a[0]]: False})
 

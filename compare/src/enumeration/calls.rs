@@ -1,6 +1,7 @@
 //! Every command and refusal against every state that can tell.
 
 use super::{buffer, plain_record, request, KINDS};
+use crate::alarms;
 use crate::command::CODES;
 use crate::comparison::{Comparison, Difference};
 use crate::frame::Kind;
@@ -74,6 +75,8 @@ pub fn refusals(comparison: &mut Comparison) -> Result<(), Difference> {
             record.changed = flags & 2 != 0;
             record.batch_reset = flags & 4 != 0;
             record.power_fail = flags & 8 != 0;
+            // None, all or one, beside every phase, keypad, access and level.
+            record.alarms = [0, alarms::ALL, 0, alarms::numbered(19)][flags % 4];
             let form = stored::form(&record);
             for (number, text) in texts.iter().enumerate() {
                 // Both kinds where the flags are off or on together, else by turns.

@@ -1,7 +1,8 @@
 //! What is enumerated and not sampled: every refusal against every phase, keypad, access and level,
-//! every combination of damages to a frame, every byte of a stored form, every pair of telling
-//! exchanges.
+//! every combination of damages to a frame, every byte of a stored form, every alarm, every pair of
+//! telling exchanges.
 
+mod alarms;
 mod calls;
 mod frames;
 mod recordings;
@@ -14,6 +15,8 @@ use crate::record::{Record, VALUE_RANGES};
 const KINDS: [Kind; 2] = [Kind::Minicomputer, Kind::Terminal];
 
 pub fn enumerate(comparison: &mut Comparison) -> Result<(), Difference> {
+    recordings::recordings(comparison)?;
+    recordings::alarm_recordings(comparison)?;
     calls::refusals(comparison)?;
     calls::parameters(comparison)?;
     calls::recipes(comparison)?;
@@ -23,7 +26,9 @@ pub fn enumerate(comparison: &mut Comparison) -> Result<(), Difference> {
     frames::host_side(comparison)?;
     records::panel_events(comparison)?;
     records::stored_forms(comparison)?;
-    recordings::recordings(comparison)
+    alarms::alarm_calls(comparison)?;
+    alarms::alarm_events(comparison)?;
+    alarms::stored_alarms(comparison)
 }
 
 /// The bytes of a lent buffer, told apart so that a moved one is seen.

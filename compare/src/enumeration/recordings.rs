@@ -1,8 +1,10 @@
-//! Recordings of every one, two and three telling exchanges, and every damage to the form.
+//! Recordings of every one, two and three telling exchanges, those about alarms by themselves, and
+//! every damage to the form.
 
 use super::request;
 use crate::comparison::{Comparison, Difference};
 use crate::frame::Kind;
+use crate::generate::recordings::Exchanges;
 use crate::recording;
 
 /// Exchanges that tell the judge something: request and replies.
@@ -67,6 +69,31 @@ const TELLING_MOST: [(&str, &str); 26] = [
     ("RS", "RS PW TP RL "),
 ];
 
+/// Those that tell of the alarms: none on, one that lasts, one that AR switches off, both.
+#[rustfmt::skip]
+const TELLING_ALARMS: [(&str, &str); 15] = [
+    ("EQ", "100000"), ("EQ", "101000"), ("EQ", "581000"),
+    ("RS", "RS "), ("RS", "RS AL "),
+    ("EA", "00000"), ("EA", "80000"), ("EA", "00100"), ("EA", "80100"),
+    ("AR", "OK"), ("AR", "NO02"),
+    ("SA", "OK"), ("SA", "NO02"), ("SA", "NO05"), ("SA", "NO09"),
+];
+
+/// Those that stand in longer sequences too.
+#[rustfmt::skip]
+const FEW_ALARMS: [(&str, &str); 5] = [
+    ("EQ", "100000"), ("EQ", "101000"), ("EA", "80000"), ("AR", "OK"), ("SA", "NO09"),
+];
+
+/// Replies about alarms that no record gives, or few.
+#[rustfmt::skip]
+const ODD_ALARMS: [(&str, &str); 20] = [
+    ("EA", "????7"), ("EA", "????6"), ("EA", "00008"), ("EA", "?????"), ("EA", "0000"),
+    ("EA", "000000"), ("EA", "EA 00000"), ("EA", "0000@"), ("EA", "OK"), ("EA", "NO02"),
+    ("EA ", "NO01"), ("EA ", "00000"), ("AR ", "NO01"), ("AR 1", "OK"), ("AR", "NO05"),
+    ("AR", "NO09"), ("EQ", "102000"), ("EQ", "108000"), ("RS", "RS FL AL "), ("RS", "RS AL AL "),
+];
+
 fn telling_exchange(address: u8, command: &str, reply: &str) -> (Vec<u8>, Vec<u8>) {
     let reply = if reply.is_empty() {
         vec![]
@@ -76,8 +103,8 @@ fn telling_exchange(address: u8, command: &str, reply: &str) -> (Vec<u8>, Vec<u8
     (request(Kind::Minicomputer, address, command), reply)
 }
 
-/// Every telling exchange at each access, every pair of them, every triple of the most telling, and
-/// damaged forms.
+/// Every telling exchange at each access, every pair of them, every triple of the most telling of
+/// which the first two fit, and damaged forms.
 pub fn recordings(comparison: &mut Comparison) -> Result<(), Difference> {
     let mut telling = Vec::new();
     for (command, replies) in TELLING {
@@ -95,15 +122,47 @@ pub fn recordings(comparison: &mut Comparison) -> Result<(), Difference> {
         }
     }
     let most = TELLING_MOST.map(|(command, reply)| telling_exchange(1, command, reply));
-    for first in &most {
-        for second in &most {
-            for third in &most {
-                let exchanges = [first.clone(), second.clone(), third.clone()];
-                comparison.judge(&recording::build(1, 2, &exchanges))?;
-            }
-        }
-    }
+    sequences(comparison, &most, &mut vec![], 3)?;
     recording_forms(comparison, &most)
+}
+
+/// Every sequence of up to so many exchanges behind those before it, as long as it fits: behind a
+/// refutation nothing tells.
+fn sequences(
+    comparison: &mut Comparison,
+    exchanges: &[(Vec<u8>, Vec<u8>)],
+    before: &mut Exchanges,
+    most: usize,
+) -> Result<(), Difference> {
+    for exchange in exchanges {
+        before.push(exchange.clone());
+        let fits = comparison.judge(&recording::build(1, 2, before))?;
+        if fits && before.len() < most {
+            sequences(comparison, exchanges, before, most)?;
+        }
+        before.pop();
+    }
+    Ok(())
+}
+
+/// Every one, two and three exchanges that tell of the alarms, more of a few, each beside each of the
+/// most telling, and before each odd one.
+pub fn alarm_recordings(comparison: &mut Comparison) -> Result<(), Difference> {
+    let exchange = |(command, reply)| telling_exchange(1, command, reply);
+    let telling = TELLING_ALARMS.map(exchange);
+    let mut pairs = Vec::new();
+    for first in &telling {
+        for other in TELLING_MOST.map(exchange) {
+            pairs.push([first.clone(), other.clone()]);
+            pairs.push([other, first.clone()]);
+        }
+        pairs.extend(ODD_ALARMS.map(|odd| [first.clone(), exchange(odd)]));
+    }
+    for pair in pairs {
+        comparison.judge(&recording::build(1, 2, &pair))?;
+    }
+    sequences(comparison, &telling, &mut vec![], 3)?;
+    sequences(comparison, &FEW_ALARMS.map(exchange), &mut vec![], 4)
 }
 
 /// Every cut, every byte of the header, every combination of wrong header parts, lengths about the

@@ -1,7 +1,8 @@
-//! Panel events at every phase and flag, and every byte of a stored form.
+//! Panel events at every phase and flag, and every byte of a stored form of either version.
 
-use super::{buffer, plain_record};
+use super::{buffer, plain_record, request};
 use crate::comparison::{Comparison, Difference};
+use crate::frame::Kind;
 use crate::record::{Phase, Record};
 use crate::stored;
 
@@ -39,7 +40,7 @@ pub fn panel_events(comparison: &mut Comparison) -> Result<(), Difference> {
                 for pulses in [0, 1, 2, 3, 65_535] {
                     comparison.panel(0, pulses, &form)?;
                 }
-                for event in [1, 2, 3, 4, 5, 255] {
+                for event in [1, 2, 3, 4, 5, 6, 7, 255] {
                     comparison.panel(event, 7, &form)?;
                 }
             }
@@ -48,39 +49,69 @@ pub fn panel_events(comparison: &mut Comparison) -> Result<(), Difference> {
     Ok(())
 }
 
+/// Every byte in every place; every length; version, length field, room and a field wrong together.
 pub fn stored_forms(comparison: &mut Comparison) -> Result<(), Difference> {
-    let whole = stored::form(&plain_record());
+    let new = stored::form(&plain_record());
+    let old = stored::old_form(&plain_record());
     let out = buffer(200);
-    for place in 0..whole.len() {
-        for byte in 0..=255 {
-            let mut form = whole;
-            form[place] = byte;
-            comparison.stored(&form, &out)?;
-        }
-    }
-    for length in 0..=400 {
-        let mut form = whole.to_vec();
-        form.resize(length, 0);
-        comparison.stored(&form, &out)?;
-        comparison.stored(&whole, &buffer(length))?;
-        comparison.stored(&form, &buffer(length))?;
-        comparison.panel(4, 0, &form)?;
-    }
-    // Version, length field and a field wrong in every combination.
-    for wrong in 0..8 {
-        let mut form = whole;
-        for (bit, place) in [0, 2, 7].into_iter().enumerate() {
-            if wrong & 1 << bit != 0 {
-                form[place] = 0x55;
+    for whole in [&old[..], &new] {
+        for place in 0..whole.len() {
+            for byte in each_byte(place, whole.len()) {
+                let mut form = whole.to_vec();
+                form[place] = byte;
+                comparison.stored(&form, &out)?;
             }
         }
-        for length in [177, 176, 178] {
-            let mut form = form.to_vec();
+        for length in 0..=400 {
+            let mut form = whole.to_vec();
             form.resize(length, 0);
             comparison.stored(&form, &out)?;
-            comparison.stored(&form, &buffer(176))?;
-            comparison.panel(9, 0, &form)?;
-            comparison.panel(1, 0, &form)?;
+            comparison.stored(whole, &buffer(length))?;
+            comparison.stored(&form, &buffer(length))?;
+            comparison.panel(4, 0, &form)?;
+        }
+        wrong_together(comparison, whole)?;
+    }
+    Ok(())
+}
+
+/// Every byte; in the parameters of version 1, which version 2 has too, those that tell most.
+fn each_byte(place: usize, length: usize) -> Vec<u8> {
+    if length == stored::LENGTHS[0] && place >= stored::parameter_start(length, 1) {
+        vec![0, 1, 3, 4, 255]
+    } else {
+        (0..=255).collect()
+    }
+}
+
+/// Version, length field and a field wrong in every combination, at each length about a version's.
+fn wrong_together(comparison: &mut Comparison, whole: &[u8]) -> Result<(), Difference> {
+    let another_address = request(Kind::Minicomputer, 1, "EA");
+    for wrong in 0..32 {
+        let mut form = whole.to_vec();
+        // The other version and its length field, then what no version has.
+        for (bit, place, byte) in [
+            (0, 0, 3 - whole[0]),
+            (1, 2, 0xB1 ^ 0xB4 ^ whole[2]),
+            (2, 0, 0x55),
+            (3, 2, 0x55),
+            (4, 7, 0x55),
+        ] {
+            if wrong & 1 << bit != 0 {
+                form[place] = byte;
+            }
+        }
+        for length in [176, 177, 178, 179, 180, 181] {
+            let mut form = form.clone();
+            form.resize(length, 0);
+            comparison.stored(&form, &buffer(200))?;
+            comparison.stored(&form, &buffer(stored::STORED_LENGTH - 1))?;
+            for event in [1, 5, 9] {
+                comparison.panel(event, 20, &form)?;
+            }
+            for (kind, room) in [(0, 63), (0, 64), (2, 64)] {
+                comparison.call(kind, &form, &another_address, &buffer(room))?;
+            }
         }
     }
     Ok(())

@@ -33,7 +33,12 @@ fn honest(random: &mut Random, count: usize) -> (u8, u8, Exchanges) {
     let mut record = records::record(random);
     let exchanges = (0..count)
         .map(|_| {
-            let mut request = requests::request(random, Kind::Minicomputer, record.address);
+            let mut request = requests::request(
+                random,
+                Kind::Minicomputer,
+                record.address,
+                requests::command,
+            );
             request.truncate(255);
             exchange(&mut record, request)
         })
@@ -44,7 +49,7 @@ fn honest(random: &mut Random, count: usize) -> (u8, u8, Exchanges) {
 /// Another reply that a controller might have given.
 fn another_reply(random: &mut Random, address: u8, reply: &[u8]) -> Vec<u8> {
     let Ok(text) = frame::open(Kind::Minicomputer, reply, Fault::None) else {
-        let answer = random.pick(&["OK", "NO00", "NO01", "000000", "RS "]);
+        let answer = random.pick(&["OK", "NO00", "NO01", "000000", "RS ", "00000"]);
         let text = format!("{address:02}{answer}");
         return frame::framed(Kind::Minicomputer, text.as_bytes());
     };
@@ -59,7 +64,7 @@ fn another_reply(random: &mut Random, address: u8, reply: &[u8]) -> Vec<u8> {
         }
         0..=2 => {
             text.truncate(2);
-            let number = random.pick(&[0, 1, 2, 4, 5, 6, 7, 8, 30]);
+            let number = random.pick(&[0, 1, 2, 4, 5, 6, 7, 8, 9, 30]);
             text.extend(format!("NO{number:02}").bytes());
         }
         3 => {
@@ -80,7 +85,9 @@ fn another_reply(random: &mut Random, address: u8, reply: &[u8]) -> Vec<u8> {
             }
         }
         7 if text[2..].starts_with(b"RS ") => {
-            let code = random.pick(&["FL ", "BD ", "PC ", "PF ", "PW ", "TD ", "TP ", "RL "]);
+            let code = random.pick(&[
+                "AL ", "FL ", "BD ", "PC ", "PF ", "PW ", "TD ", "TP ", "RL ",
+            ]);
             let places = (text.len() - 5) / 3;
             let place = 5 + 3 * random.below(places + 1);
             if random.percent(50) || place == text.len() {
@@ -123,7 +130,7 @@ fn related_commands(
         random.pick(&[low, high, (low + high) / 2])
     });
     let [first, second] = places.map(code);
-    let (texts, field) = match random.below(6) {
+    let (texts, field) = match random.below(8) {
         0 => (vec!["TN", "TN", "SB 1", "SA", "SP", "ET"], Field::Number),
         1 => (vec!["RT R", "RT R", "SB 7", "TN", "ET", "SA"], Field::Raw),
         2 => (
@@ -144,8 +151,10 @@ fn related_commands(
         ),
         4 => (
             vec!["EQ", "SA", "SP", "SB 1", "ET", "RS"],
-            random.pick(&[Field::Phase, Field::Keypad]),
+            random.pick(&[Field::Phase, Field::Keypad, Field::Alarms]),
         ),
+        5 => (vec!["EQ", "AR", "AR", "RS"], Field::Alarms),
+        6 => (vec!["EA", "SA", "SP", "SA", "AR"], Field::Alarms),
         _ => (
             vec!["RS", "RE BD", "RE PC", "SB 1", "PC {p} {v}", "EQ"],
             random.pick(&[Field::Changed, Field::BatchReset]),
@@ -181,7 +190,7 @@ fn related_commands(
 fn mixed_commands(random: &mut Random, recipes: [u8; 2], places: [usize; 2]) -> Vec<String> {
     let mut pool: Vec<String> = [
         "EQ", "RS", "TN", "RR", "RC", "RC", "RT R", "SB 1", "SB 500", "SB 0", "SA", "SA", "SP",
-        "SP", "ET", "RE BD", "RE PC", "SB 7", "QQ", "EQ ",
+        "SP", "ET", "RE BD", "RE PC", "SB 7", "QQ", "EQ ", "EA", "AR", "AR", "EA ", "AR 1",
     ]
     .map(String::from)
     .to_vec();
@@ -216,7 +225,7 @@ fn few_commands(random: &mut Random, address: u8) -> (Vec<Vec<u8>>, [usize; 2], 
         random.below(PARAMETERS)
     };
     let places = [factor_place(recipes[0]), second];
-    let (texts, field) = if random.percent(50) {
+    let (texts, field) = if random.percent(70) {
         related_commands(random, recipes, places)
     } else {
         let texts = mixed_commands(random, recipes, places);
@@ -233,6 +242,9 @@ fn few_commands(random: &mut Random, address: u8) -> (Vec<Vec<u8>>, [usize; 2], 
 pub fn adversarial(random: &mut Random, longest: u32) -> Vec<u8> {
     let mut record = records::record(random);
     record.keypad &= random.percent(50);
+    if random.percent(50) {
+        record.alarms = 0;
+    }
     if random.percent(30) {
         record.access = 3;
     }
@@ -242,9 +254,9 @@ pub fn adversarial(random: &mut Random, longest: u32) -> Vec<u8> {
     let mut exchanges = Vec::new();
     for _ in 0..count {
         if random.percent(jumps) {
-            let field = match random.below(2) {
-                0 => related,
-                _ => records::field(random),
+            let field = match random.below(4) {
+                0 => records::field(random),
+                _ => related,
             };
             records::jump(random, &mut record, field, &places);
         }
@@ -327,15 +339,19 @@ fn noise(random: &mut Random) -> Vec<u8> {
     bytes
 }
 
-/// A recording that is honest or nearly so, of about this many bytes.
-pub fn long(random: &mut Random, length: usize) -> Vec<u8> {
-    let mut record = records::record(random);
+/// An honest recording from this record on, of about this many bytes.
+pub fn long(
+    random: &mut Random,
+    mut record: Record,
+    command: requests::Commands,
+    length: usize,
+) -> Vec<u8> {
     let (address, access) = (record.address, record.access);
     let mut exchanges = Vec::new();
     let mut total = 5;
     loop {
         let mut text = format!("{address:02}").into_bytes();
-        text.extend(requests::command(random).bytes());
+        text.extend(command(random).bytes());
         let request = frame::framed(Kind::Minicomputer, &text);
         let made = exchange(&mut record, request);
         total += 2 + made.0.len() + made.1.len();
@@ -350,7 +366,8 @@ pub fn long(random: &mut Random, length: usize) -> Vec<u8> {
 /// A long recording at or past the limit of the length, or with one change.
 fn long_or_too_long(random: &mut Random) -> Vec<u8> {
     let length = random.pick(&[4_000, 16_000, 65_535]);
-    let mut bytes = long(random, length);
+    let record = records::record(random);
+    let mut bytes = long(random, record, requests::command, length);
     if length == recording::LONGEST_RECORDING {
         // Exchanges without bytes up to the limit, or to one past it.
         while bytes.len() + 2 <= length {

@@ -1,5 +1,6 @@
 //! Valid records, and records that differ from another in one field.
 
+use crate::alarms::{self, HIGHEST_ALARM};
 use crate::random::Random;
 use crate::record::{
     Phase, Record, HIGHEST_ADDRESS, HIGHEST_LEVEL, HIGHEST_NUMBER, HIGHEST_PRESET, HIGHEST_RAW,
@@ -25,8 +26,30 @@ pub fn level(random: &mut Random) -> u8 {
     random.between(0, u32::from(HIGHEST_LEVEL)) as u8
 }
 
+/// No alarm, one, some that AR switches off, some that last, all, or any.
+pub fn alarms(random: &mut Random) -> u32 {
+    let any = random.next() as u32 & alarms::ALL;
+    match random.below(8) {
+        0..=2 => 0,
+        3 => alarms::numbered(random.between(1, u32::from(HIGHEST_ALARM)) as u16),
+        4 => any & alarms::RESETTABLE,
+        5 => any & alarms::LASTING,
+        6 => alarms::ALL,
+        _ => any,
+    }
+}
+
 /// Any valid record.
 pub fn record(random: &mut Random) -> Record {
+    let record = record_without_alarms(random);
+    Record {
+        alarms: alarms(random),
+        ..record
+    }
+}
+
+/// Any valid record with no alarm on.
+pub fn record_without_alarms(random: &mut Random) -> Record {
     let edges = random.percent(60);
     let mut record = Record {
         address: number(random, 1, u32::from(HIGHEST_ADDRESS), edges) as u8,
@@ -41,6 +64,7 @@ pub fn record(random: &mut Random) -> Record {
         preset: number(random, 0, HIGHEST_PRESET, edges),
         raw: number(random, 0, HIGHEST_RAW, edges),
         number: number(random, 1, u32::from(HIGHEST_NUMBER), edges) as u16,
+        alarms: 0,
         parameters: Record::low().parameters,
     };
     for (place, parameter) in record.parameters.iter_mut().enumerate() {
@@ -70,9 +94,10 @@ pub enum Field {
     Number,
     Value,
     Level,
+    Alarms,
 }
 
-const FIELDS: [Field; 13] = [
+const FIELDS: [Field; 14] = [
     Field::Phase,
     Field::Phase,
     Field::Keypad,
@@ -86,6 +111,7 @@ const FIELDS: [Field; 13] = [
     Field::Number,
     Field::Value,
     Field::Level,
+    Field::Alarms,
 ];
 
 pub fn field(random: &mut Random) -> Field {
@@ -110,6 +136,8 @@ pub fn jump(random: &mut Random, record: &mut Record, field: Field, places: &[us
             record.parameters[place].value = number(random, low, high, true);
         }
         Field::Level => record.parameters[place].level = level(random),
+        Field::Alarms if record.alarms != 0 && flag(random) => record.alarms = 0,
+        Field::Alarms => record.alarms = alarms(random),
     }
 }
 

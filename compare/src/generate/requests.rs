@@ -31,8 +31,22 @@ fn parameter(random: &mut Random) -> (String, (u32, u32)) {
     (format!("{:03}", parameter_code(place)), VALUE_RANGES[place])
 }
 
-/// Code and arguments of some command in its right form, arguments often at or past an edge.
+/// Makes code and arguments of some command in its right form.
+pub type Commands = fn(&mut Random) -> String;
+
+/// Any command.
 pub fn command(random: &mut Random) -> String {
+    if random.percent(15) {
+        random
+            .pick(&["EA", "AR", "EA", "AR", "SA", "EQ", "RS"])
+            .into()
+    } else {
+        command_of_document_01(random)
+    }
+}
+
+/// Any command that document 01 has, arguments often at or past an edge.
+pub fn command_of_document_01(random: &mut Random) -> String {
     match random.below(22) {
         0 => "EQ".into(),
         1 => "RS".into(),
@@ -123,7 +137,7 @@ fn malform(random: &mut Random, text: &mut Vec<u8>) {
 }
 
 /// A request's text for a controller of this address.
-pub fn text(random: &mut Random, address: u8) -> Vec<u8> {
+pub fn text(random: &mut Random, address: u8, command: Commands) -> Vec<u8> {
     let address = match random.below(30) {
         0 => "00".into(),
         1 => format!("{:02}", random.below(100)),
@@ -178,7 +192,7 @@ fn damage(random: &mut Random, kind: Kind, frame: &mut Vec<u8>) {
 }
 
 /// A request frame, seldom one of the other kind, now and then damaged or noise.
-pub fn request(random: &mut Random, kind: Kind, address: u8) -> Vec<u8> {
+pub fn request(random: &mut Random, kind: Kind, address: u8, command: Commands) -> Vec<u8> {
     let other = match kind {
         Kind::Minicomputer => Kind::Terminal,
         Kind::Terminal => Kind::Minicomputer,
@@ -195,20 +209,20 @@ pub fn request(random: &mut Random, kind: Kind, address: u8) -> Vec<u8> {
         4..=8 => {
             // Marks and check as they should be around a text of any length.
             let length = random.below(71);
-            let mut bytes = text(random, address);
+            let mut bytes = text(random, address, command);
             while bytes.len() < length {
                 bytes.push(character(random));
             }
             frame::framed(kind, &bytes[..length])
         }
-        9 => frame::framed(other, &text(random, address)),
+        9 => frame::framed(other, &text(random, address, command)),
         10..=27 => {
-            let mut frame = frame::framed(kind, &text(random, address));
+            let mut frame = frame::framed(kind, &text(random, address, command));
             for _ in 0..random.between(1, 3) {
                 damage(random, kind, &mut frame);
             }
             frame
         }
-        _ => frame::framed(kind, &text(random, address)),
+        _ => frame::framed(kind, &text(random, address, command)),
     }
 }

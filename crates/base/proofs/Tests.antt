@@ -1,6 +1,6 @@
 -- Laws of tests and of choices by a test. Assumes nothing.
 use Prim.Native.Nat.{ℕ, zero, suc, _+_, _≤_, _<_}
-use mathlib.Core.Bool.{Bool, true, false, _&&_}
+use mathlib.Core.Bool.{Bool, true, false, not, _&&_}
 use mathlib.Core.Path.{_≡_, refl, sym, ap, _∙_}
 use native.Mathlib.Nat.{eq-or-lt-of-le}
 use native.Mathlib.Omega.{arith}
@@ -10,7 +10,7 @@ use native.Mathlib.Numerals.{add-one}
 use lib.Dec.{leb, ltb}
 use lib.ListN.{length, drop, getD, drop-of-length-le}
 use lib.Seq.{drop-cons}
-use borrow.Author.Tests.{le-leb, lt-leb, leb-true, ltb-true, ltb-false, eq-eqb, ne-eqb}
+use borrow.Author.Tests.{le-leb, lt-leb, leb-true, ltb-true, ltb-false, eq-eqb, ne-eqb, not-true}
 use Rattle.base.specs.Test.{between, allBetween, member}
 
 -- by a test that holds or not
@@ -26,6 +26,15 @@ pub and-no : (a b : Bool) → (a ≡ true → b ≡ true → ⊥) → (a && b) �
 and-no true true h = absurd (h refl refl)
 and-no true false h = refl
 and-no false b h = refl
+
+-- two tests that say the same are equal
+abbrev pub same : Bool → Bool → Bool
+same true b = b
+same false b = not b
+
+pub same-as : (a b : Bool) → same a b ≡ true → a ≡ b
+same-as true b e = sym e
+same-as false b e = sym (not-true b e)
 
 pub and-never : (b : Bool) → (b && false) ≡ false
 and-never true = refl

@@ -69,9 +69,10 @@ fn refusal(why: Refusal) -> usize {
     }
 }
 
-pub(crate) fn form_read(answer: stored::Answer) -> usize {
+// How many bytes were read.
+pub(crate) fn form_read(answer: stored::Answer, length: usize) -> usize {
     match answer {
-        stored::Answer::Whole => STORED_LENGTH,
+        stored::Answer::Whole => length,
         stored::Answer::Refused(why) => refusal(why),
     }
 }

@@ -47,6 +47,7 @@ pub(crate) fn bench(line: &[u8]) -> Record {
         preset: 0,
         raw: 0,
         number: 9999,
+        alarms: 0,
         values: values,
         levels: levels,
     }
@@ -72,6 +73,9 @@ pub(crate) fn set(mut r: Record, line: &[u8]) -> Record {
         b'a' => {
             r.raw = n;
         }
+        b'l' => {
+            r.alarms = n;
+        }
         _ => {
             r.values[FACTOR_OF_THREE] = n;
         }
@@ -88,12 +92,21 @@ fn keypad_in(line: &[u8]) -> Event {
     Event::KeypadOff
 }
 
+fn alarm_in(line: &[u8]) -> Event {
+    let number = (last_number(line) % 65536) as u16;
+    if at(line, 13) == b'n' {
+        return Event::AlarmOn(number);
+    }
+    Event::AlarmOff(number)
+}
+
 // The event that a line names, told by the second letter of its name.
 pub(crate) fn event_in(line: &[u8]) -> Event {
     match at(line, 7) {
         b'u' => Event::Pulses((last_number(line) % 65536) as u16),
         b't' => Event::Still,
         b'o' => Event::PowerBack,
+        b'l' => alarm_in(line),
         _ => keypad_in(line),
     }
 }
@@ -112,9 +125,13 @@ fn put_fields(r: Record) {
     put_field(b'@', r.address as u64);
     put_field(b'A', r.access as u64);
     put_field(b'R', r.recipe as u64);
+}
+
+fn put_batch(r: Record) {
     put_field(b'P', r.preset as u64);
     put_field(b'W', r.raw as u64);
     put_field(b'N', r.number as u64);
+    put_field(b'L', r.alarms as u64);
 }
 
 // Writes the record's phase and flags, then its fields but the parameters, and gives it back.
@@ -124,5 +141,6 @@ pub(crate) fn shown(r: Record) -> Record {
     put_number(state::phase_number(phase) as u64);
     put_flags(r);
     put_fields(r);
+    put_batch(r);
     r
 }

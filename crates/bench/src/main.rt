@@ -1,4 +1,4 @@
-// Runs document 01's examples, limits and traps: one case to a line of the input, written back with what it gets.
+// Runs the examples, limits and traps of documents 01 and 02: one case to a line of the input, written back with what it gets.
 // The input itself says at its start what each kind of line is.
 mod answers;
 mod fields;

@@ -96,7 +96,7 @@ pub(crate) fn store(r: Record, out: &mut [u8]) -> Record {
 pub(crate) fn load(form: &[u8]) -> Record {
     let reading = stored::read(form);
     let answer = reading.answer;
-    put_answer(form_read(answer));
+    put_answer(form_read(answer, form.len()));
     shown(reading.record)
 }
 

@@ -60,7 +60,7 @@ pub(crate) fn number_before(line: &[u8], end: usize) -> usize {
 // ---- bytes
 
 // The most bytes that a line gives, and that are lent.
-pub(crate) const MOST: usize = 180;
+pub(crate) const MOST: usize = 183;
 
 // The value of a hexadecimal digit; 0 for any other byte.
 fn nibble(b: u8) -> u8

@@ -191,6 +191,8 @@ effect-fits c x s = by-member (λ (d : ℕ). Sound d x → Fitting (rowOf d comm
         (λ s. (omega arith, omega arith, refl, tt)) also (λ s. (omega arith, omega arith, refl, tt)) also (λ s. (omega arith, omega arith, refl, tt)) also
         -- RE
         (λ s. flag-fits (equal (x .word) (text "BD"))) also
+        -- EA, AR
+        (λ s. tt) also (λ s. tt) also
         tt
 
 -- what an accepted text changes fits the record

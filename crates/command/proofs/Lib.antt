@@ -3,3 +3,4 @@ pub mod Tables
 pub mod Agree
 pub mod Fits
 pub mod Serving
+pub mod Alarms

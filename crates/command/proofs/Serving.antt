@@ -6,7 +6,7 @@ use mathlib.Core.List.{List, [], _∷_, _++_}
 use native.Mathlib.Omega.{arith}
 use lib.ListN.{length, getD, set}
 use lib.Seq.{set-out}
-use borrow.Author.Tests.{lt-ltb, le-ltb, not-true, not-false}
+use borrow.Author.Tests.{eq-eqb, ne-eqb, lt-ltb, le-ltb, not-true, not-false}
 use Rattle.state.specs.declared.Record.{Record}
 use Rattle.state.specs.declared.Place.{Place}
 use Rattle.state.specs.declared.Place.the-variants.{At, Nothing}
@@ -27,7 +27,7 @@ use Rattle.command.specs.declared.Phases.{Phases}
 use Rattle.command.specs.declared.Guards.{Guards}
 use Rattle.command.specs.Commands.{placeNumber, placeFor, Reply, acknowledged, Change, applied, rowOf}
 use Rattle.command.specs.Answer.{Verdict, NO, accepted}
-use Rattle.command.specs.Request.{Guard, guardsIn, guardsOf, guarded, andThen, replyOf, changesOf, Answered, no, shows, servedBy, servedOf, refusalNumber, decisionAs, readingAs, writingAs, requestAs, phaseGuard, keypadGuards, levelGuards, phaseGuards, plainGuards, guardsAs}
+use Rattle.command.specs.Request.{Guard, guardsIn, guardsOf, guarded, andThen, replyOf, changesOf, Answered, no, shows, servedBy, servedOf, refusalNumber, decisionAs, readingAs, writingAs, requestAs, keypadGuard, phaseGuard, alarmGuard, keypadGuards, levelGuards, phaseGuards, alarmGuards, plainGuards, guardsAs}
 
 -- ---- the place of a code
 pub place-found : (p i : ℕ) (q : Place) → q ≡ placeOf p → q ≡ At i → i ≡ placeFor p
@@ -63,39 +63,38 @@ module _ (r : Record) where
       → decisionAs b ≡ guarded ys r → v ≡ guarded (xs ++ ys) r
   both-guarded xs ys a b v e p q = e ∙ ap (λ (w : Verdict). andThen w (decisionAs b)) p ∙ ap (andThen (guarded xs r)) q ∙ sym (guards-then xs ys)
 
+  -- one guard, if it is tested at all
+  module _ (g : Guard) (t : Bool) where
+    pub guard-untested : not t ≡ true → accepted ≡ guarded (pick t (g ∷ []) []) r
+    unfolding guarded
+    guard-untested e = simp (not-true t e)
+
+    guard-tested : (b : Bool) → not t ≡ false → g .refuses (get (g .field) r) ≡ b → pick b (NO (g .refusal)) accepted ≡ guarded (pick t (g ∷ []) []) r
+    unfolding guarded
+    guard-tested b e h = simp (not-false t e, h)
+
   -- NO02
   module _ (t : Bool) where
-    pub keypad-untested : not t ≡ true → accepted ≡ guarded (keypadGuards t) r
-    unfolding guarded
-    keypad-untested e = simp (not-true t e)
-
     pub keypad-on : not t ≡ false → r .keypad ≡ true → NO 2 ≡ guarded (keypadGuards t) r
-    unfolding guarded
-    keypad-on e h = simp (not-false t e, h)
+    keypad-on e h = guard-tested keypadGuard t true e (simp h)
 
     pub keypad-off : not t ≡ false → r .keypad ≡ false → accepted ≡ guarded (keypadGuards t) r
-    unfolding guarded
-    keypad-off e h = simp (not-false t e, h)
+    keypad-off e h = guard-tested keypadGuard t false e (simp h)
 
   -- NO07
-  module _ (g : Guards) where
-    pub level-untested : not (g .level) ≡ true → accepted ≡ guarded (levelGuards (r .access) g) r
+  module _ (g : Guards) (e : not (g .level) ≡ false) where
+    pub level-above : g .above ≡ true → NO 7 ≡ guarded (levelGuards (r .access) g) r
     unfolding guarded
-    level-untested e = simp (not-true (g .level) e)
+    level-above h = simp (not-false (g .level) e, h, or-true)
 
-    module _ (e : not (g .level) ≡ false) where
-      pub level-above : g .above ≡ true → NO 7 ≡ guarded (levelGuards (r .access) g) r
+    module _ (h : g .above ≡ false) (n : ℕ) (f : n ≡ getD (r .levels) (g .place) 0) where
+      pub level-refused : r .access < n → NO 7 ≡ guarded (levelGuards (r .access) g) r
       unfolding guarded
-      level-above h = simp (not-false (g .level) e, h, or-true)
+      level-refused l = let k : r .access < getD (r .levels) (g .place) 0 = omega arith in simp (not-false (g .level) e, lt-ltb (r .access) (getD (r .levels) (g .place) 0) k)
 
-      module _ (h : g .above ≡ false) (n : ℕ) (f : n ≡ getD (r .levels) (g .place) 0) where
-        pub level-refused : r .access < n → NO 7 ≡ guarded (levelGuards (r .access) g) r
-        unfolding guarded
-        level-refused l = let k : r .access < getD (r .levels) (g .place) 0 = omega arith in simp (not-false (g .level) e, lt-ltb (r .access) (getD (r .levels) (g .place) 0) k)
-
-        pub level-passed : n ≤ r .access → accepted ≡ guarded (levelGuards (r .access) g) r
-        unfolding guarded
-        level-passed l = let k : getD (r .levels) (g .place) 0 ≤ r .access = omega arith in simp (not-false (g .level) e, h, le-ltb (r .access) (getD (r .levels) (g .place) 0) k)
+      pub level-passed : n ≤ r .access → accepted ≡ guarded (levelGuards (r .access) g) r
+      unfolding guarded
+      level-passed l = let k : getD (r .levels) (g .place) 0 ≤ r .access = omega arith in simp (not-false (g .level) e, h, le-ltb (r .access) (getD (r .levels) (g .place) 0) k)
 
   -- NO05
   passed-where : (b : Bool) → pick b accepted (NO 5) ≡ pick (not b) (NO 5) accepted
@@ -113,6 +112,14 @@ module _ (r : Record) where
   pub phases-as : (p q : Phases) (v : Verdict) → p ≡ q → v ≡ guarded (phaseGuards q) r → v ≡ guarded (phaseGuards p) r
   phases-as p q v e w = w ∙ ap (λ (x : Phases). guarded (phaseGuards x) r) (sym e)
 
+  -- NO09
+  module _ (t : Bool) where
+    pub alarms-on : not t ≡ false → (r .alarms ≡ 0 → ⊥) → NO 9 ≡ guarded (alarmGuards t) r
+    alarms-on e h = guard-tested alarmGuard t true e (simp (ne-eqb (r .alarms) 0 h))
+
+    pub alarms-off : not t ≡ false → r .alarms ≡ 0 → accepted ≡ guarded (alarmGuards t) r
+    alarms-off e h = guard-tested alarmGuard t false e (simp (eq-eqb (r .alarms) 0 h))
+
 pub among-yes : (b t : Bool) → t ≡ b → t ≡ true → accepted ≡ pick b accepted (NO 5)
 among-yes b t e h = simp (sym e ∙ h)
 
@@ -123,9 +130,11 @@ pub ruleset placing = (place-found, place-missing)
 
 pub ruleset guarding = (guards-as, guards-plain)
 
-pub ruleset keypad-deciding = (keypad-untested, keypad-on, keypad-off)
+pub ruleset keypad-deciding = (guard-untested, keypad-on, keypad-off)
 
-pub ruleset level-deciding = (level-untested, level-above, level-refused, level-passed)
+pub ruleset level-deciding = (guard-untested, level-above, level-refused, level-passed)
+
+pub ruleset alarm-deciding = (guard-untested, alarms-on, alarms-off)
 
 pub ruleset phase-deciding = (phase-tested, phase-untested, phases-as, among-yes, among-no)
 
@@ -162,6 +171,7 @@ acknowledges writing.Stop = refl
 acknowledges writing.End = refl
 acknowledges writing.ClearReset = refl
 acknowledges writing.ClearChanged = refl
+acknowledges writing.ResetAlarms = refl
 
 module _ (q : Writing) (r : Record) (g : Guards) (d : Decision) (e : guardsAs (r .access) g ≡ guardsOf (r .access) (writingAs q))
     (v : decisionAs d ≡ guarded (guardsAs (r .access) g) r) where
@@ -188,6 +198,7 @@ reads-only reading.Composition a = (refl, refl)
 reads-only reading.Raw a = (refl, refl)
 reads-only (reading.Value i) a = (refl, refl)
 reads-only (reading.Level i) a = (refl, refl)
+reads-only reading.Alarms a = (refl, refl)
 
 reading-served : (q : Reading) (r : Record) → _≡_ {A = Answered × Record} (shows (replyOf (readingAs q)), r) (servedOf (readingAs q) r)
 unfolding servedOf guarded applied

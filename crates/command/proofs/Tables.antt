@@ -12,13 +12,15 @@ use borrow.Author.Tests.{eqb-true, eqb-false}
 use Rattle.base.proofs.Tests.{by-test}
 use Rattle.state.specs.declared.Record.{Record}
 use Rattle.base.specs.Test.{pick}
-use Rattle.state.specs.Field.{Field, access, number, get, put, position, fieldRange}
+use Rattle.state.specs.Alarm.{lasting}
+use Rattle.state.specs.Field.{Field, access, number, alarms, get, put, position, fieldRange}
 use Rattle.state.specs.Valid.{within, valid}
 use Rattle.state.proofs.Fields.{Held, same-field, get-put-same, get-put-other}
 use Rattle.state.proofs.Validity.{valid-tell}
-use Rattle.state.proofs.Kept.{put-kept, next-in}
+use Rattle.state.proofs.Alarms.{lasting-within}
+use Rattle.state.proofs.Kept.{field-in, put-kept, next-in}
 use Rattle.state.specs.Event.{nextNumber}
-use Rattle.command.specs.Commands.{Change, becomes, nextBatch, applied}
+use Rattle.command.specs.Commands.{Change, becomes, nextBatch, resetAlarms, applied}
 use Rattle.command.specs.Refusals.{Row, byText, applies, rowNumber}
 use Rattle.command.specs.Answer.{NO, accepted, firstOf}
 
@@ -87,10 +89,12 @@ module _ (c : ℕ) (xs : List ℕ) (r : Record) where
 abbrev pub fieldOf : Change → Field
 fieldOf (becomes f m) = f
 fieldOf nextBatch = number
+fieldOf resetAlarms = alarms
 
 abbrev pub given : Change → ℕ → ℕ
 given (becomes f m) n = m
 given nextBatch n = nextNumber n
+given resetAlarms n = lasting n
 
 -- a field's number after changes: that of the first change that names it, or the one it had
 unfoldable pub numberAfter : Field → List Change → Record → ℕ
@@ -102,6 +106,11 @@ abbrev pub Fitting : List Change → Type 0
 Fitting [] = Unit {0}
 Fitting (becomes f n ∷ cs) = Held f × (position access < position f) × (within (fieldRange f) n ≡ true) × Fitting cs
 Fitting (nextBatch ∷ cs) = Fitting cs
+Fitting (resetAlarms ∷ cs) = Fitting cs
+
+-- what AR leaves of a valid record's alarms are alarms
+lasting-in : (s : Record) → valid s ≡ true → within (fieldRange alarms) (lasting (get alarms s)) ≡ true
+lasting-in s w = lasting-within (get alarms s) (field-in s w alarms (omega arith))
 
 module _ (r : Record) (v : valid r ≡ true) where
   -- a valid record stays valid
@@ -110,6 +119,7 @@ module _ (r : Record) (v : valid r ≡ true) where
   applied-valid [] f = v
   applied-valid (becomes g n ∷ cs) f = put-kept (applied cs r) (applied-valid cs (f .3)) g n (f .2)
   applied-valid (nextBatch ∷ cs) f = let w = applied-valid cs f in put-kept (applied cs r) w number (nextNumber (get number (applied cs r))) (next-in (applied cs r) w)
+  applied-valid (resetAlarms ∷ cs) f = let w = applied-valid cs f in put-kept (applied cs r) w alarms (lasting (get alarms (applied cs r))) (lasting-in (applied cs r) w)
 
   -- a number put into a field shows there, and no other field shows it
   put-reads : (s : Record) → valid s ≡ true → (f g : Field) (n : ℕ) → Held f → within (fieldRange f) n ≡ true
@@ -122,6 +132,15 @@ module _ (r : Record) (v : valid r ≡ true) where
       simp e (ap (λ (x : Field). get x (put f n s)) (sym q) ∙ get-put-same s (t .values-length) (t .levels-length) f n h i))
       (λ e. simp e (get-put-other f g n s (eqb-false _ _ e)))
 
+  -- a field gets another number by the one it held
+  step-reads : (f : Field) (step : ℕ → ℕ) → Held f → (cs : List Change) → valid (applied cs r) ≡ true → within (fieldRange f) (step (get f (applied cs r))) ≡ true
+      → ((g : Field) → get g (applied cs r) ≡ numberAfter g cs r) → (g : Field)
+      → get g (put f (step (get f (applied cs r))) (applied cs r)) ≡ pick (eqb (position f) (position g)) (step (numberAfter f cs r)) (numberAfter g cs r)
+  step-reads f step h cs w i before g =
+      put-reads (applied cs r) w f g (step (get f (applied cs r))) h i
+      ∙ ap (λ (n : ℕ). pick (eqb (position f) (position g)) (step n) (get g (applied cs r))) (before f)
+      ∙ ap (pick (eqb (position f) (position g)) (step (numberAfter f cs r))) (before g)
+
   -- every field holds what the changes say, and all others what they held
   pub applied-reads : (cs : List Change) → Fitting cs → (g : Field) → get g (applied cs r) ≡ numberAfter g cs r
   unfolding applied numberAfter
@@ -130,6 +149,7 @@ module _ (r : Record) (v : valid r ≡ true) where
       put-reads (applied cs r) (applied-valid cs (f .3)) h g n (f .0) (f .2) ∙ ap (pick (eqb (position h) (position g)) n) (applied-reads cs (f .3) g)
   applied-reads (nextBatch ∷ cs) f g =
       let w = applied-valid cs f in
-      put-reads (applied cs r) w number g (nextNumber (get number (applied cs r))) (omega arith) (next-in (applied cs r) w)
-      ∙ ap (λ (n : ℕ). pick (eqb (position number) (position g)) (nextNumber n) (get g (applied cs r))) (applied-reads cs f number)
-      ∙ ap (pick (eqb (position number) (position g)) (nextNumber (numberAfter number cs r))) (applied-reads cs f g)
+      step-reads number (λ n. nextNumber n) (omega arith) cs w (next-in (applied cs r) w) (applied-reads cs f) g
+  applied-reads (resetAlarms ∷ cs) f g =
+      let w = applied-valid cs f in
+      step-reads alarms (λ n. lasting n) (omega arith) cs w (lasting-in (applied cs r) w) (applied-reads cs f) g

@@ -5,6 +5,7 @@ use mathlib.Core.List.{List, map}
 use lib.ListN.{replicate, set}
 use Rattle.state.specs.declared.Phase.the-variants.{Idle}
 use Rattle.state.specs.declared.Record.{Record}
+use Rattle.state.specs.Alarm.{noAlarm}
 use Rattle.state.specs.Parameter.{recipes, parameterCount, rangeOf, parametersFor, placeOf}
 use Rattle.command.specs.Commands.{placeNumber}
 
@@ -13,7 +14,7 @@ abbrev pub at : ℕ → ℕ → List ℕ → List ℕ
 at code n xs = set xs (placeNumber (placeOf code)) n
 
 -- "address 1, access 2, Idle, recipe 3, number 9999, flags off, preset and raw 0, values at their low end but 032 = 10012,
--- levels 1 but 807 at 3"
+-- levels 1 but 807 at 3"; and no alarm
 unfoldable pub bench : Record
 bench =
     record {
@@ -29,6 +30,7 @@ bench =
       preset = 0;
       raw = 0;
       number = 9999;
+      alarms = noAlarm;
       values = at 32 10012 (map (λ p. rangeOf p .low) (parametersFor recipes));
       levels = at 807 3 (replicate parameterCount 1);
     }

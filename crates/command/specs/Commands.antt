@@ -1,4 +1,4 @@
--- Document 01, "Commands", first table: each request's code, the form of its arguments, its reply if accepted, and its effect.
+-- Document 01, "Commands", first table, with the rows of 02, L1: each request's code, the form of its arguments, its reply if accepted, and its effect.
 use Prim.Native.Nat.{ℕ, _+_, _-_, _*_}
 use mathlib.Core.Bool.{Bool, true, false, _&&_}
 use mathlib.Core.List.{List, [], _∷_, _++_}
@@ -10,10 +10,11 @@ use Rattle.state.specs.declared.Place.{Place}
 use Rattle.state.specs.declared.Place.the-variants.{At, Nothing}
 use Rattle.base.specs.Test.{pick, between}
 use Rattle.state.specs.Parameter.{parameterCount, placeOf, codeAt}
-use Rattle.state.specs.Field.{Field, phase, changed, reset, recipe, preset, raw, number, value, level, get, put, on, off}
+use Rattle.state.specs.Alarm.{lasting}
+use Rattle.state.specs.Field.{Field, phase, changed, reset, recipe, preset, raw, number, alarms, value, level, get, put, on, off}
 use Rattle.state.specs.Event.{idle, set, running, stopped, nextNumber}
 use Rattle.text.specs.Word.{space, digits, allDigits, valueOf, equal, oneOf}
-use Rattle.command.specs.Status.{statusCharacters, statusCodes, codesOn}
+use Rattle.command.specs.Status.{statusCharacters, alarmCharacters, statusCodes, codesOn}
 
 -- ---- the codes, two letters as one number
 abbrev pub EQ : ℕ
@@ -63,6 +64,12 @@ ET = letters "ET"
 
 abbrev pub RE : ℕ
 RE = letters "RE"
+
+abbrev pub EA : ℕ
+EA = letters "EA"
+
+abbrev pub AR : ℕ
+AR = letters "AR"
 
 -- the code of a text: its third and fourth byte
 unfoldable pub codeIn : List ℕ → ℕ
@@ -158,6 +165,8 @@ pub data Reply : Type 0 where
   numbered : List ℕ → ℕ → Field → Reply
   -- "RC rr vvvvvvvv, recipe and its factor now"
   composition : Reply
+  -- EA: "five characters"
+  systemAlarms : Reply
 
 -- "PV ppp ", "XV ppp "
 abbrev pub parameterLabel : List ℕ → ℕ → List ℕ
@@ -173,6 +182,7 @@ printed status r = statusCharacters r
 printed codes r = text "RS " ++ codesOn statusCodes r
 printed (numbered w n f) r = w ++ digits n (get f r)
 printed composition r = (text "RC " ++ digits 2 (get recipe r)) ++ (space ∷ digits 8 (get (value (factorPlace (get recipe r))) r))
+printed systemAlarms r = alarmCharacters (get alarms r)
 
 -- ---- effects: one field's new number each
 pub data Change : Type 0 where
@@ -180,6 +190,8 @@ pub data Change : Type 0 where
   becomes : Field → ℕ → Change
   -- "batch number +1 (9999 goes to 1)"
   nextBatch : Change
+  -- AR: "switches off PA and U1 to U5; the others stay"
+  resetAlarms : Change
 
 infix 70 _≔_
 abbrev pub _≔_ : Field → ℕ → Change
@@ -188,6 +200,7 @@ f ≔ n = becomes f n
 abbrev pub afterChange : Change → Record → Record
 afterChange (becomes f n) r = put f n r
 afterChange nextBatch r = put number (nextNumber (get number r)) r
+afterChange resetAlarms r = put alarms (lasting (get alarms r)) r
 
 unfoldable pub applied : List Change → Record → Record
 applied [] r = r
@@ -229,6 +242,8 @@ commands =
     ∷ writes SP nothing (λ a. (phase ≔ stopped) ∷ [])
     ∷ writes ET nothing (λ a. (phase ≔ idle) ∷ [])
     ∷ writes RE (words (text "BD" ∷ text "PC" ∷ [])) (λ a. (flagNamed (a .word) ≔ off) ∷ [])
+    ∷ reads EA nothing (λ a. systemAlarms)
+    ∷ writes AR nothing (λ a. resetAlarms ∷ [])
     ∷ []
 
 -- the row of a code; the last entry stands for a code that is not in the table, which no request that is accepted has

@@ -1,4 +1,4 @@
--- Document 01, "Commands", second table: the refusals, "first that applies".
+-- Document 01, "Commands", second table, with the rows of 02, L1: the refusals, "first that applies".
 use Prim.Native.Nat.{ℕ}
 use mathlib.Core.Bool.{Bool, not, _&&_, _||_}
 use mathlib.Core.List.{List, [], _∷_, map}
@@ -7,11 +7,12 @@ use Rattle.base.specs.Text.{text}
 use Rattle.state.specs.declared.Record.{Record}
 use Rattle.base.specs.Test.{pick, member}
 use Rattle.state.specs.Parameter.{parameterCount, rangeAt}
-use Rattle.state.specs.Field.{Field, access, phase, keypad, recipe, level, get, fieldRange, on}
+use Rattle.state.specs.Alarm.{noAlarm}
+use Rattle.state.specs.Field.{Field, access, phase, keypad, recipe, alarms, level, get, fieldRange, on}
 use Rattle.state.specs.Valid.{within}
 use Rattle.state.specs.Event.{idle, set, running, stopped, done}
 use Rattle.text.specs.Word.{oneOf}
-use Rattle.command.specs.Commands.{RT, PV, XV, PC, XC, NR, SB, SA, SP, ET, RE, Command, commands, rowOf, formed, Arguments, argumentsOf, behindSpace}
+use Rattle.command.specs.Commands.{RT, PV, XV, PC, XC, NR, SB, SA, SP, ET, RE, AR, Command, commands, rowOf, formed, Arguments, argumentsOf, behindSpace}
 
 -- a row: its number, and when it applies to a code c: by what stands behind the code; by the arguments x there; or, for some codes, by the
 -- number n that one field of the record holds, on a link of access a
@@ -68,7 +69,7 @@ abbrev pub outOfRange : ℕ → Arguments → Bool
 outOfRange c x =
     (of (PC ∷ []) c && not (within (rangeAt (x .place)) (x .number))) || (of (XC ∷ []) c && ltb 3 (x .number)) || (of (SB ∷ []) c && eqb (x .number) 0)
 
--- NO02 "keypad on (PC, XC, NR, SB, SA, ET, RE; never SP)"
+-- NO02 "keypad on (PC, XC, NR, SB, SA, ET, RE; never SP)"; 02: "AR NO02"
 abbrev pub keypadTaken : ℕ → Arguments → ℕ → ℕ → Bool
 keypadTaken c x a n = eqb n on
 
@@ -85,6 +86,10 @@ needed c =
 abbrev pub wrongPhase : ℕ → Arguments → ℕ → ℕ → Bool
 wrongPhase c x a n = not (member n (needed c))
 
+-- 02: "SA gets NO09, after NO05, while an alarm is on"
+abbrev pub anAlarmOn : ℕ → Arguments → ℕ → ℕ → Bool
+anAlarmOn c x a n = not (eqb n noAlarm)
+
 -- | reply | when |
 abbrev pub refusals : List Row
 refusals =
@@ -94,7 +99,8 @@ refusals =
     ∷ byArguments 4 unknownParameter
     ∷ byArguments 30 unknownRecipe
     ∷ byArguments 6 outOfRange
-    ∷ byField 2 (PC ∷ XC ∷ NR ∷ SB ∷ SA ∷ ET ∷ RE ∷ []) (λ x. keypad) keypadTaken
+    ∷ byField 2 (PC ∷ XC ∷ NR ∷ SB ∷ SA ∷ ET ∷ RE ∷ AR ∷ []) (λ x. keypad) keypadTaken
     ∷ byField 7 (PC ∷ XC ∷ []) (λ x. level (x .place)) levelAbove
     ∷ byField 5 (PC ∷ NR ∷ SB ∷ SA ∷ SP ∷ ET ∷ []) (λ x. phase) wrongPhase
+    ∷ byField 9 (SA ∷ []) (λ x. alarms) anAlarmOn
     ∷ []

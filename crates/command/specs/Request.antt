@@ -7,7 +7,8 @@ use lib.Dec.{eqb, ltb}
 use Rattle.base.specs.Text.{text}
 use Rattle.state.specs.declared.Record.{Record}
 use Rattle.base.specs.Test.{pick, member}
-use Rattle.state.specs.Field.{Field, access, phase, keypad, level, get, on}
+use Rattle.state.specs.Alarm.{noAlarm}
+use Rattle.state.specs.Field.{Field, access, phase, keypad, alarms, level, get, on}
 use Rattle.state.specs.Event.{idle, set, running, stopped, done}
 use Rattle.command.specs.declared.Reading.{Reading}
 use Rattle.command.specs.declared.Reading.the-variants as reading
@@ -26,7 +27,7 @@ use Rattle.command.specs.declared.Phases.the-variants as phases
 use Rattle.command.specs.declared.Guards.{Guards}
 use Rattle.command.specs.declared.Numbers.{Numbers}
 use Rattle.command.specs.declared.Numbers.the-variants as numbersRead
-use Rattle.command.specs.Commands.{EQ, RS, TN, RR, RC, RT, PV, XV, PC, XC, NR, SB, SA, SP, ET, RE, codeIn, Form, numbers, formed, Arguments, none, aPlace, aWord, placeBehind, lastBehind, Reply, acknowledged, printed, Change, applied, commands, rowOf}
+use Rattle.command.specs.Commands.{EQ, RS, TN, RR, RC, RT, PV, XV, PC, XC, NR, SB, SA, SP, ET, RE, EA, AR, codeIn, Form, numbers, formed, Arguments, none, aPlace, aWord, placeBehind, lastBehind, Reply, acknowledged, printed, Change, applied, commands, rowOf}
 use Rattle.command.specs.Refusals.{Row, byText, byArguments, byField, refusals, argumentsFor}
 use Rattle.command.specs.Answer.{Verdict, NO, accepted, behindCode, refusalText}
 
@@ -128,6 +129,7 @@ refusalNumber refusal.Range = 6
 refusalNumber refusal.Level = 7
 refusalNumber refusal.NotServed = 8
 refusalNumber refusal.UnknownRecipe = 30
+refusalNumber refusal.Alarm = 9
 
 abbrev pub decisionAs : Decision → Verdict
 decisionAs decision.Accepted = accepted
@@ -143,6 +145,7 @@ asRead reading.Composition = (RC, none)
 asRead reading.Raw = (RT, aWord (text "R"))
 asRead (reading.Value i) = (PV, aPlace i 0)
 asRead (reading.Level i) = (XV, aPlace i 0)
+asRead reading.Alarms = (EA, none)
 
 abbrev pub asWritten : Writing → ℕ × Arguments
 asWritten (writing.SetValue i n) = (PC, aPlace i n)
@@ -154,6 +157,7 @@ asWritten writing.Stop = (SP, none)
 asWritten writing.End = (ET, none)
 asWritten writing.ClearReset = (RE, aWord (text "BD"))
 asWritten writing.ClearChanged = (RE, aWord (text "PC"))
+asWritten writing.ResetAlarms = (AR, none)
 
 abbrev pub readingAs : Reading → Asked
 readingAs q = asked (asRead q .0) (asRead q .1)
@@ -182,6 +186,9 @@ levelGuard a above i = record { refusal = 7; field = level i; refuses = λ n. lt
 abbrev pub phaseGuard : List ℕ → Guard
 phaseGuard ps = record { refusal = 5; field = phase; refuses = λ n. not (member n ps) }
 
+abbrev pub alarmGuard : Guard
+alarmGuard = record { refusal = 9; field = alarms; refuses = λ n. not (eqb n noAlarm) }
+
 abbrev pub keypadGuards : Bool → List Guard
 keypadGuards b = pick b (keypadGuard ∷ []) []
 
@@ -195,11 +202,14 @@ phaseGuards phases.SetOrStopped = phaseGuard (set ∷ stopped ∷ []) ∷ []
 phaseGuards phases.Running = phaseGuard (running ∷ []) ∷ []
 phaseGuards phases.SetStoppedOrDone = phaseGuard (set ∷ stopped ∷ done ∷ []) ∷ []
 
+abbrev pub alarmGuards : Bool → List Guard
+alarmGuards b = pick b (alarmGuard ∷ []) []
+
 abbrev pub guardsAs : ℕ → Guards → List Guard
-guardsAs a g = keypadGuards (g .keypad) ++ (levelGuards a g ++ phaseGuards (g .phases))
+guardsAs a g = keypadGuards (g .keypad) ++ (levelGuards a g ++ (phaseGuards (g .phases) ++ alarmGuards (g .alarms)))
 
 abbrev pub plainGuards : Bool → Phases → Guards
-plainGuards b ps = record { keypad = b; level = false; place = 0; above = false; phases = ps }
+plainGuards b ps = record { keypad = b; level = false; place = 0; above = false; phases = ps; alarms = false }
 
 -- ---- steps of reading a text
 

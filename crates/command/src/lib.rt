@@ -24,7 +24,7 @@ ghost use Rattle.base.specs.Test.{pick, member};
 ghost use Rattle.command.specs.Commands.{RT, PC, XC, NR, SB, RE, nothing, aPlace, placeFor, applied};
 ghost use Rattle.command.specs.Refusals.{listed};
 ghost use Rattle.command.specs.Answer.{NO, accepted};
-ghost use Rattle.command.specs.Request.{refused, numbersOf, whole, askedFor, askedIn, askedWith, guardsOf, guarded, andThen, plainGuards, keypadGuards, levelGuards, phaseGuards, guardsAs, changesOf, servedOf, refusalNumber, decisionAs, requestAs, writingAs, answerAs};
+ghost use Rattle.command.specs.Request.{refused, numbersOf, whole, askedFor, askedIn, askedWith, guardsOf, guarded, andThen, plainGuards, keypadGuards, levelGuards, phaseGuards, alarmGuards, guardsAs, changesOf, servedOf, refusalNumber, decisionAs, requestAs, writingAs, answerAs};
 
 // What a request asks to be shown; a parameter is given by its place.
 pub enum Reading {
@@ -44,6 +44,8 @@ pub enum Reading {
     Value(usize),
     // XV
     Level(usize),
+    // EA
+    Alarms,
 }
 
 // What a request asks to be changed.
@@ -66,6 +68,8 @@ pub enum Writing {
     ClearReset,
     // RE PC
     ClearChanged,
+    // AR
+    ResetAlarms,
 }
 
 // What a text asks for, its numbers in range; or what refuses it whatever the record.
@@ -95,6 +99,8 @@ pub enum Refusal {
     NotServed,
     // NO30
     UnknownRecipe,
+    // NO09
+    Alarm,
 }
 
 // The number that goes out with a refusal.
@@ -111,6 +117,7 @@ pub fn number_of(refusal: Refusal) -> u32
         Refusal::Level => 7,
         Refusal::NotServed => 8,
         Refusal::UnknownRecipe => 30,
+        Refusal::Alarm => 9,
     }
 }
 
@@ -138,6 +145,8 @@ pub struct Guards {
     pub above: bool,
     // NO05
     pub phases: Phases,
+    // NO09: whether no alarm may be on.
+    pub alarms: bool,
 }
 
 // What is replied.
@@ -187,6 +196,10 @@ const SP: u32 = 0x5350;
 const ET: u32 = 0x4554;
 
 const RE: u32 = 0x5245;
+
+const EA: u32 = 0x4541;
+
+const AR: u32 = 0x4152;
 
 // ---- reading a text
 
@@ -412,6 +425,8 @@ pub fn parse(text: &[u8]) -> Request
         SP => alone(rest, Request::Write(Writing::Stop)),
         ET => alone(rest, Request::Write(Writing::End)),
         RE => flag_to_clear(rest),
+        EA => alone(rest, Request::Read(Reading::Alarms)),
+        AR => alone(rest, Request::Write(Writing::ResetAlarms)),
         _ => Request::Refused(Refusal::UnknownCode),
     }
 }
@@ -427,6 +442,7 @@ fn plain(keypad: bool, phases: Phases) -> Guards
         place: 0,
         above: false,
         phases: phases,
+        alarms: false,
     }
 }
 
@@ -441,6 +457,7 @@ pub fn guards_of(access: u8, request: Writing) -> Guards
             place: place,
             above: false,
             phases: Phases::IdleOrDone,
+            alarms: false,
         },
         Writing::SetLevel(place, level) => Guards {
             keypad: true,
@@ -448,14 +465,23 @@ pub fn guards_of(access: u8, request: Writing) -> Guards
             place: place,
             above: access < level,
             phases: Phases::Any,
+            alarms: false,
         },
         Writing::SelectRecipe(_) => plain(true, Phases::IdleOrDone),
         Writing::SetBatch(_) => plain(true, Phases::IdleOrDone),
-        Writing::Start => plain(true, Phases::SetOrStopped),
+        Writing::Start => Guards {
+            keypad: true,
+            level: false,
+            place: 0,
+            above: false,
+            phases: Phases::SetOrStopped,
+            alarms: true,
+        },
         Writing::Stop => plain(false, Phases::Running),
         Writing::End => plain(true, Phases::SetStoppedOrDone),
         Writing::ClearReset => plain(true, Phases::Any),
         Writing::ClearChanged => plain(true, Phases::Any),
+        Writing::ResetAlarms => plain(true, Phases::Any),
     }
 }
 
@@ -519,13 +545,26 @@ fn by_phase(r: Record, phases: Phases) -> Decision
     }
 }
 
-// NO02, NO07, NO05.
+fn by_alarms(r: Record, tested: bool) -> Decision
+    ensures { λ d. ⌜ decisionAs d ≡ guarded (alarmGuards tested) r ⌝ }
+{
+    if !tested {
+        return Decision::Accepted;
+    }
+    if r.alarms != 0 {
+        return Decision::Refused(Refusal::Alarm);
+    }
+    Decision::Accepted
+}
+
+// NO02, NO07, NO05, NO09.
 fn by_record(r: Record, guards: Guards) -> Decision
     ensures { λ d. ⌜ decisionAs d ≡ guarded (guardsAs (get Field.access r) guards) r ⌝ }
 {
     let phases = guards.phases;
-    let by_level_and_phase = and_then(by_level(r, guards), by_phase(r, phases));
-    and_then(by_keypad(r, guards.keypad), by_level_and_phase)
+    let from_phase = and_then(by_phase(r, phases), by_alarms(r, guards.alarms));
+    let from_level = and_then(by_level(r, guards), from_phase);
+    and_then(by_keypad(r, guards.keypad), from_level)
 }
 
 // ---- what an accepted write changes
@@ -573,6 +612,7 @@ fn apply(mut r: Record, request: Writing) -> Record
             r.changed = false;
             r
         }
+        Writing::ResetAlarms => r.reset_alarms(),
     }
 }
 

@@ -1,8 +1,8 @@
 -- When a call is silent and with which silence, and when it says NO and with which number, each as "if and only if", for any record,
 -- kind of link, request bytes and reply buffer. From the bytes of a reply back to its row: a frame determines its text, no accepted
 -- reply begins with "N", and two digits determine a number below 100. Assumes nothing.
-use Prim.Native.Nat.{ℕ, zero, suc, _+_, _≤_, _<_}
-use mathlib.Core.Bool.{Bool, true, false, not, _&&_, false≢true}
+use Prim.Native.Nat.{ℕ, zero, suc, _+_, _/_, _%_, _≤_, _<_}
+use mathlib.Core.Bool.{Bool, true, false, not, _&&_, _||_, false≢true}
 use mathlib.Core.Path.{_≡_, refl, sym, ap, subst, _∙_}
 use mathlib.Core.List.{List, [], _∷_, _++_}
 use mathlib.Core.Logic.{_↔_, _⊎_, inl, inr, ⊎-elim}
@@ -11,26 +11,27 @@ use native.Mathlib.Omega.{arith}
 use lib.Dec.{eqb, leb, ltb}
 use lib.ListN.{length, take, drop, getD}
 use lib.Seq.{drop-at}
-use borrow.Author.Tests.{ltb-true, ne-eqb}
+use borrow.Author.Tests.{ltb-true, eqb-true, eq-eqb, ne-eqb}
 use Rattle.base.specs.Test.{unless, allBetween}
-use Rattle.base.proofs.Tests.{by-test, and-left, and-right, below-or-not}
+use Rattle.base.proofs.Tests.{by-test, and-left, and-right, below-or-not, allBelow, holds-below}
 use Rattle.base.specs.Text.{text}
 use Rattle.state.specs.declared.Record.{Record}
-use Rattle.state.specs.Field.{address, get}
+use Rattle.state.specs.Alarm.{characterValues}
+use Rattle.state.specs.Field.{address, alarms, get}
 use Rattle.state.specs.Valid.{valid}
 use Rattle.frame.specs.declared.Kind.{Kind}
 use Rattle.frame.specs.Frame.{allText, namesUnit, addressIn, frameOf, textIn, withinLimits, marksRight, checkRight}
 use Rattle.base.proofs.Lists.{over-take}
 use Rattle.frame.proofs.RoundTrip.{frame-located}
 use Rattle.text.specs.Word.{digits, valueOf}
-use Rattle.command.specs.Status.{first, weightIn, statusCharacters}
+use Rattle.command.specs.Status.{first, weightIn, statusCharacters, alarmCharacters}
 use Rattle.command.specs.Commands.{Command, Arguments, codeIn, printed, commands, rowOf}
 use Rattle.command.specs.Refusals.{Row, refusals, rowNumber, applies}
 use Rattle.command.specs.Answer.{Verdict, NO, accepted, behindCode, argumentsIn, verdict, replyFor, replyText}
 use Rattle.text.proofs.Words.{digits-length, value-digits}
 use Rattle.command.proofs.Tables.{FirstAt, noRow}
 use Rattle.command.proofs.Fits.{twoDigits}
-use Rattle.reply.proofs.Laws.{weights-high, Text, text-wider, text-joined, text-digits, text-labelled}
+use Rattle.reply.proofs.Laws.{weights-high, Text, longest, text-wider, text-joined, text-digits, text-labelled}
 use Rattle.controller.specs.Call.{Outcome, callOf}
 use Rattle.controller.proofs.Theorems.{reply-legal, is-answered, refusal-keeps, no-by-row, row-goes-out, accepted-by-none}
 
@@ -123,9 +124,12 @@ heard-exactly k r q o = subst (λ (n : ℕ). n ≡ 0 ↔ NoneFails (tests k r q 
 
 -- ---- no accepted reply begins with "N"
 
--- EQ's first character is 0x3f at most
+-- EQ's first character is 0x3f at most, and so is EA's
 status-begins : (r : Record) → eqb (0x30 + weightIn r first) 0x4e ≡ false
 status-begins r = ne-eqb (0x30 + weightIn r first) 0x4e (λ e. omega (arith, weights-high r first))
+
+alarms-begin : (n : ℕ) → eqb (0x30 + n / 32768 % 16) 0x4e ≡ false
+alarms-begin n = ne-eqb (0x30 + n / 32768 % 16) 0x4e (λ e. omega arith)
 
 -- a text does not begin with "N"
 abbrev notN : List ℕ → Bool
@@ -137,8 +141,8 @@ allNotN [] x r = true
 allNotN (c ∷ cs) x r = notN (printed (c .reply x) r) && allNotN cs x r
 
 commands-not-N : (x : Arguments) (r : Record) → allNotN commands x r ≡ true
-unfolding statusCharacters
-commands-not-N x r = simp (status-begins r)
+unfolding statusCharacters alarmCharacters characterValues
+commands-not-N x r = simp (status-begins r, alarms-begin (get alarms r))
 
 row-not-N : (code : ℕ) (cs : List Command) (x : Arguments) (r : Record) → allNotN cs x r ≡ true → notN (printed (rowOf code cs .reply x) r) ≡ true
 unfolding rowOf
@@ -152,6 +156,13 @@ number-below : (rows : List Row) (i : ℕ) → twoDigits rows ≡ true → rowNu
 number-below [] i h = omega arith
 number-below (row ∷ rows) zero h = ltb-true (rowNumber row) 100 (and-left (ltb (rowNumber row) 100) (twoDigits rows) h)
 number-below (row ∷ rows) (suc i) h = number-below rows i (and-right (ltb (rowNumber row) 100) (twoDigits rows) h)
+
+-- no two rows have the same number
+pub one-row : (i j : ℕ) → i < length refusals → j < length refusals → rowNumber (getD refusals i noRow) ≡ rowNumber (getD refusals j noRow) → i ≡ j
+one-row i j l m e =
+    let same : ℕ → ℕ → Bool = λ a b. not (eqb (rowNumber (getD refusals a noRow)) (rowNumber (getD refusals b noRow))) || eqb a b in
+    let h : same i j ≡ true = holds-below (same i) (length refusals) (holds-below (λ (a : ℕ). allBelow (same a) (length refusals)) (length refusals) refl i l) j m in
+    eqb-true i j (simp (eq-eqb _ _ e) at h)
 
 -- ---- NO n goes out if and only if row n's own condition holds and no earlier row's does
 
@@ -183,16 +194,16 @@ reply-verdict t r n l = go (verdict t r) refl
         e ∙ ap NO (sym (value-digits 2 m (row-below t r m (no-by-row t r m e))) ∙ (same ∙ value-digits 2 n l))
     go accepted e p = not-both (notN (replyFor accepted t r)) (row-not-N (codeIn t) commands (argumentsIn t) r (commands-not-N (argumentsIn t) r)) (ap notN p)
 
-no-legal : (a n : ℕ) → Text 4 29 (digits 2 a ++ (text "NO" ++ digits 2 n))
+no-legal : (a n : ℕ) → Text 4 (2 + longest) (digits 2 a ++ (text "NO" ++ digits 2 n))
 unfolding allBetween
 no-legal a n =
     text-wider _ _ _ _ _ (omega arith) (omega arith) (text-joined _ _ _ _ (digits 2 a) _ (text-digits 2 a) (text-labelled (text "NO") 2 n refl))
 
 -- a frame determines its text
-frame-same : (k : Kind) (s t : List ℕ) → Text 4 29 s → Text 4 29 t → frameOf k s ≡ frameOf k t → s ≡ t
+frame-same : (k : Kind) (s t : List ℕ) → Text 4 (2 + longest) s → Text 4 (2 + longest) t → frameOf k s ≡ frameOf k t → s ≡ t
 frame-same k s t f g e = sym (read s f) ∙ (ap (textIn k) e ∙ read t g)
   where
-    read : (x : List ℕ) → Text 4 29 x → textIn k (frameOf k x) ≡ x
+    read : (x : List ℕ) → Text 4 (2 + longest) x → textIn k (frameOf k x) ≡ x
     read x h = frame-located k x (h .low) (omega (arith, h .high)) (h .bytes) .1
 
 module _ (k : Kind) (r : Record) (q o : List ℕ) (heard : callOf k r q o .silence ≡ 0) where

@@ -1,4 +1,5 @@
--- What each read request shows of a valid record. `Theorems.antt` puts a write before it. Assumes nothing.
+-- What each read request shows of a valid record, and what AR does to it while the keypad is off. `Theorems.antt` puts a write before
+-- a read. Assumes nothing.
 use Prim.Native.Nat.{ℕ, _+_, _*_, _/_, _%_, _≤_, _<_}
 use mathlib.Core.Bool.{true}
 use mathlib.Core.Path.{_≡_, refl, sym, ap, subst, _∙_}
@@ -12,8 +13,9 @@ use Rattle.base.specs.Test.{allBetween}
 use Rattle.state.specs.declared.Record.{Record}
 use Rattle.state.specs.declared.Place.the-variants.{At}
 use Rattle.state.specs.Parameter.{recipes, parameterCount, placeOf}
-use Rattle.state.specs.Field.{Field, address, access, recipe, raw, number, value, level, get, position}
+use Rattle.state.specs.Field.{Field, address, access, keypad, recipe, raw, number, alarms, value, level, get, position, off}
 use Rattle.state.specs.Valid.{valid}
+use Rattle.state.specs.Event.{alarmsReset}
 use Rattle.base.proofs.Tests.{between-yes, below-or-not}
 use Rattle.state.proofs.Validity.{valid-tell}
 use Rattle.state.proofs.Parameters.{code-has-place, code-given-recipe, code-given-system}
@@ -23,11 +25,11 @@ use Rattle.base.specs.Lists.{over}
 use Rattle.frame.proofs.Laws.{found}
 use Rattle.frame.proofs.RoundTrip.{frame-located}
 use Rattle.text.specs.Word.{space, digits, valueOf, equal}
-use Rattle.command.specs.Status.{statusCharacters, statusCodes, codesOn}
-use Rattle.command.specs.Commands.{EQ, RS, TN, RR, RC, RT, PV, XV, codeIn, formed, digitsBetween, Arguments, none, aPlace, aWord, placeNumber, placeFor, parameterLabel, factorPlace, printed, Change, _≔_, applied, commands, rowOf}
+use Rattle.command.specs.Status.{statusCharacters, alarmCharacters, statusCodes, codesOn}
+use Rattle.command.specs.Commands.{EQ, RS, TN, RR, RC, RT, PV, XV, EA, AR, codeIn, formed, digitsBetween, Arguments, none, aPlace, aWord, placeNumber, placeFor, parameterLabel, factorPlace, printed, Change, _≔_, applied, commands, rowOf}
 use Rattle.command.specs.Refusals.{refusals}
-use Rattle.command.specs.Answer.{replyText, recordAfter}
-use Rattle.command.specs.Request.{Asked, asked, firstByText, firstByArguments, askedWith, askedFor, askedIn, guardsIn, guarded, Answered, shows, servedOf}
+use Rattle.command.specs.Answer.{Verdict, accepted, replyText, recordAfter}
+use Rattle.command.specs.Request.{Asked, asked, firstByText, firstByArguments, askedWith, askedFor, askedIn, Guard, guardsIn, guarded, Answered, shows, servedBy, servedOf}
 use Rattle.text.proofs.Words.{value-digits, digits-all}
 use Rattle.command.proofs.Tables.{numberAfter}
 use Rattle.command.proofs.Agree.{record-by-steps}
@@ -44,13 +46,14 @@ code-small c i e =
     ⊎-elim (λ (q : i < 3 * recipes). omega (arith, h .1, code-given-recipe i q)) (λ (q : 3 * recipes ≤ i). omega (arith, h .1, code-given-system i q l))
     (below-or-not i (3 * recipes))
 
--- ---- the requests that ask
+-- ---- the requests that ask, and AR
 module _ (n : ℕ) where
   plain-asked : (askedIn (digits 2 n ++ text "EQ") ≡ asked EQ none) × (askedIn (digits 2 n ++ text "RS") ≡ asked RS none)
       × (askedIn (digits 2 n ++ text "TN") ≡ asked TN none) × (askedIn (digits 2 n ++ text "RR") ≡ asked RR none)
-      × (askedIn (digits 2 n ++ text "RC") ≡ asked RC none)
+      × (askedIn (digits 2 n ++ text "RC") ≡ asked RC none) × (askedIn (digits 2 n ++ text "EA") ≡ asked EA none)
+      × (askedIn (digits 2 n ++ text "AR") ≡ asked AR none)
   unfolding askedIn askedFor askedWith firstByText firstByArguments rowOf codeIn formed digits
-  plain-asked = (refl, refl, refl, refl, refl)
+  plain-asked = (refl, refl, refl, refl, refl, refl, refl)
 
   raw-asked : askedIn (digits 2 n ++ text "RT R") ≡ asked RT (aWord (text "R"))
   unfolding askedIn askedFor askedWith firstByText firstByArguments rowOf codeIn formed digits equal
@@ -73,11 +76,15 @@ composed r f = (text "RC " ++ digits 2 r) ++ (space ∷ digits 8 f)
 
 -- ---- the call that answers them
 
--- asked this at address n, the record shows that and stays as it was
-abbrev pub AnswersAt : Kind → Record → List ℕ → ℕ → List ℕ → List ℕ → Type 0
-AnswersAt k s o n question shown =
+-- asked this at address n, the call shows that and leaves the record r
+abbrev pub LeavesAt : Kind → Record → List ℕ → ℕ → List ℕ → List ℕ → Record → Type 0
+LeavesAt k s o n question shown r =
     callOf k s (frameOf k (digits 2 n ++ question)) o
-    ≡ record { silence = 0; reported = length (frameOf k (digits 2 n ++ shown)); after = s; buffer = over (frameOf k (digits 2 n ++ shown)) o }
+    ≡ record { silence = 0; reported = length (frameOf k (digits 2 n ++ shown)); after = r; buffer = over (frameOf k (digits 2 n ++ shown)) o }
+
+-- and the record stays as it was
+abbrev pub AnswersAt : Kind → Record → List ℕ → ℕ → List ℕ → List ℕ → Type 0
+AnswersAt k s o n question shown = LeavesAt k s o n question shown s
 
 module _ (k : Kind) (s : Record) (o : List ℕ) (v : valid s ≡ true) (room : 64 ≤ length o) where
   abbrev Answers : List ℕ → List ℕ → Type 0
@@ -105,24 +112,33 @@ module _ (k : Kind) (s : Record) (o : List ℕ) (v : valid s ≡ true) (room : 6
       let g = found k (frameOf k t) (length t) (l .0) in
       simp (v, le-leb 64 (length o) room, g .limits, g .marks, g .sum, l .1, f .bytes, n, eq-eqb (addressIn t) (s .address) a)
 
-  -- a request that no row of the record concerns and that changes nothing
-  read-served : (q : ℕ) (x : Arguments) → guardsIn refusals q x (get access s) ≡ [] → rowOf q commands .effect x ≡ []
-      → servedOf (asked q x) s ≡ (shows (rowOf q commands .reply x), s)
-  unfolding servedOf guarded applied
-  read-served q x g e = simp (g, e)
+  -- a request that no row of the record refuses
+  request-served : (q : ℕ) (x : Arguments) → guarded (guardsIn refusals q x (get access s)) s ≡ accepted
+      → servedOf (asked q x) s ≡ (shows (rowOf q commands .reply x), applied (rowOf q commands .effect x) s)
+  unfolding servedOf
+  request-served q x g = ap (λ (w : Verdict). servedBy w (asked q x) s) g
 
-  answers : (c d : ℕ) (rest : List ℕ) (q : ℕ) (x : Arguments) → isCapital c ≡ true → isCapital d ≡ true → Text 2 58 (c ∷ d ∷ rest)
-      → askedIn (digits 2 (s .address) ++ (c ∷ d ∷ rest)) ≡ asked q x → guardsIn refusals q x (get access s) ≡ [] → rowOf q commands .effect x ≡ []
-      → Answers (c ∷ d ∷ rest) (printed (rowOf q commands .reply x) s)
-  unfolding textFor
-  answers c d rest q x h i f e g n =
-      let t : List ℕ = digits 2 (s .address) ++ (c ∷ d ∷ rest) in
-      let legal : Text 4 60 t = text-joined 2 2 2 58 (digits 2 (s .address)) (c ∷ d ∷ rest) (text-digits 2 (s .address)) f in
-      let served : servedOf (askedIn t) s ≡ (shows (rowOf q commands .reply x), s) = ap (λ (z : Asked). servedOf z s) e ∙ read-served q x g n in
-      let reply-is : replyText t s ≡ digits 2 (s .address) ++ printed (rowOf q commands .reply x) s =
-      sym (text-by-steps t s) ∙ ap (λ (z : Answered × Record). textFor (z .0) s) served in
-      let record-is : recordAfter t s ≡ s = sym (record-by-steps t s) ∙ ap (λ (z : Answered × Record). z .1) served in
-      called t legal (named c d rest h i) (numbered c d rest) ∙ simp (reply-is, record-is)
+  module _ (c d : ℕ) (rest : List ℕ) (q : ℕ) (x : Arguments) (h : isCapital c ≡ true) (i : isCapital d ≡ true) (f : Text 2 58 (c ∷ d ∷ rest))
+      (e : askedIn (digits 2 (s .address) ++ (c ∷ d ∷ rest)) ≡ asked q x) where
+    served-so : guarded (guardsIn refusals q x (get access s)) s ≡ accepted
+        → LeavesAt k s o (get address s) (c ∷ d ∷ rest) (printed (rowOf q commands .reply x) s) (applied (rowOf q commands .effect x) s)
+    unfolding textFor
+    served-so g =
+        let t : List ℕ = digits 2 (s .address) ++ (c ∷ d ∷ rest) in
+        let legal : Text 4 60 t = text-joined 2 2 2 58 (digits 2 (s .address)) (c ∷ d ∷ rest) (text-digits 2 (s .address)) f in
+        let served : servedOf (askedIn t) s ≡ (shows (rowOf q commands .reply x), applied (rowOf q commands .effect x) s) =
+        ap (λ (z : Asked). servedOf z s) e ∙ request-served q x g in
+        let reply-is : replyText t s ≡ digits 2 (s .address) ++ printed (rowOf q commands .reply x) s =
+        sym (text-by-steps t s) ∙ ap (λ (z : Answered × Record). textFor (z .0) s) served in
+        let record-is : recordAfter t s ≡ applied (rowOf q commands .effect x) s = sym (record-by-steps t s) ∙ ap (λ (z : Answered × Record). z .1) served in
+        called t legal (named c d rest h i) (numbered c d rest) ∙ simp (reply-is, record-is)
+
+    -- no row of the record concerns it, and it changes nothing
+    answers : guardsIn refusals q x (get access s) ≡ [] → rowOf q commands .effect x ≡ [] → Answers (c ∷ d ∷ rest) (printed (rowOf q commands .reply x) s)
+    unfolding guarded applied
+    answers g n =
+        subst (λ (cs : List Change). LeavesAt k s o (get address s) (c ∷ d ∷ rest) (printed (rowOf q commands .reply x) s) (applied cs s)) n
+        (served-so (ap (λ (gs : List Guard). guarded gs s) g))
 
   two : (c d : ℕ) → allText (c ∷ d ∷ []) ≡ true → Text 2 58 (c ∷ d ∷ [])
   two c d h = text-wider 2 2 2 58 (c ∷ d ∷ []) (omega arith) (omega arith) (text-word (c ∷ d ∷ []) h)
@@ -146,6 +162,15 @@ module _ (k : Kind) (s : Record) (o : List ℕ) (v : valid s ≡ true) (room : 6
   pub composition-read : Answers (text "RC") (composed (get recipe s) (get (value (factorPlace (get recipe s))) s))
   unfolding guardsIn rowOf allBetween
   composition-read = answers 0x52 0x43 [] RC none refl refl (two 0x52 0x43 refl) (plain-asked (s .address) .4) refl refl
+
+  pub alarms-read : Answers (text "EA") (alarmCharacters (get alarms s))
+  unfolding guardsIn rowOf allBetween
+  alarms-read = answers 0x45 0x41 [] EA none refl refl (two 0x45 0x41 refl) (plain-asked (s .address) .5) refl refl
+
+  -- AR
+  pub reset-served : get keypad s ≡ off → LeavesAt k s o (get address s) (text "AR") (text "OK") (alarmsReset s)
+  unfolding guardsIn guarded applied rowOf allBetween
+  reset-served h = served-so 0x41 0x52 [] AR none refl refl (two 0x41 0x52 refl) (plain-asked (s .address) .6) (simp h)
 
   pub raw-read : Answers (text "RT R") (text "RT R " ++ digits 8 (get raw s))
   unfolding guardsIn rowOf allBetween

@@ -14,9 +14,10 @@ use Rattle.state.specs.declared.Place.{Place}
 use Rattle.state.specs.declared.Place.the-variants.{At, Nothing}
 use Rattle.base.specs.Test.{pick}
 use Rattle.state.specs.Parameter.{parameterCount, placeOf}
-use Rattle.state.specs.Field.{Field, address, phase, changed, reset, recipe, preset, raw, number, value, level, position, get, on, flagNumber}
+use Rattle.state.specs.Alarm.{lasting}
+use Rattle.state.specs.Field.{Field, address, phase, changed, reset, recipe, preset, raw, number, alarms, value, level, position, get, put, on, flagNumber}
 use Rattle.state.specs.Valid.{valid}
-use Rattle.state.specs.Event.{set, nextNumber}
+use Rattle.state.specs.Event.{set, nextNumber, alarmsReset}
 use Rattle.frame.specs.declared.Kind.{Kind}
 use Rattle.frame.specs.declared.Kind.the-variants.{Minicomputer, Terminal}
 use Rattle.frame.specs.Frame.{allText, namesUnit, addressIn, frameOf, textIn, withinLimits, marksRight, checkRight}
@@ -26,8 +27,8 @@ use Rattle.base.specs.Lists.{over}
 use Rattle.frame.proofs.Laws.{frame-length, framed-built}
 use Rattle.frame.proofs.RoundTrip.{read-built}
 use Rattle.text.specs.Word.{space, digits, valueOf}
-use Rattle.command.specs.Status.{Bit, characters, weightIn, statusCharacters, Code, statusCodes, codesOn}
-use Rattle.command.specs.Commands.{PV, XV, PC, XC, NR, SB, codeIn, Arguments, placeNumber, placeFor, commands, rowOf, factorPlace, Change, becomes, _≔_, nextBatch}
+use Rattle.command.specs.Status.{Bit, characters, weightIn, statusCharacters, alarmCharacters, Code, statusCodes, codesOn}
+use Rattle.command.specs.Commands.{PV, XV, PC, XC, NR, SB, AR, codeIn, Arguments, placeNumber, placeFor, applied, commands, rowOf, factorPlace, Change, becomes, _≔_, nextBatch, resetAlarms}
 use Rattle.command.specs.Refusals.{refusals, rowNumber, applies, of, argumentsFor}
 use Rattle.command.specs.Answer.{Verdict, NO, behindCode, argumentsIn, verdict, recordFor, replyText, recordAfter}
 use Rattle.command.specs.Answer as tables
@@ -36,10 +37,10 @@ use Rattle.base.proofs.Tests.{by-test}
 use Rattle.command.proofs.Tables.{FirstAt, noRow, first-goes-out, by-first, none-applies, accepted-if-none, numberAfter, Fitting, applied-valid, applied-reads}
 use Rattle.command.proofs.Fits.{Sound, SoundAsked, asked-sound, accepted-fits}
 use Rattle.command.proofs.Agree.{accepted-asked}
-use Rattle.reply.proofs.Laws.{Text, text-legal, served-answers}
+use Rattle.reply.proofs.Laws.{Text, longest, text-legal, served-answers}
 use Rattle.controller.specs.Call.{Outcome, silent, replied, callOf}
 use Rattle.controller.proofs.Steps.{text-by-steps}
-use Rattle.controller.proofs.ReadBack.{parameterShown, composed, AnswersAt, composition-same, status-read, codes-read, number-read, recipe-read, composition-read, raw-read, value-read, level-read, skipped, shown-first}
+use Rattle.controller.proofs.ReadBack.{parameterShown, composed, AnswersAt, composition-same, status-read, codes-read, number-read, recipe-read, composition-read, raw-read, alarms-read, value-read, level-read, skipped, shown-first}
 
 -- ---- every input gets a reply or exactly one named silence
 
@@ -63,10 +64,10 @@ pub record Answered (k : Kind) (r : Record) (q o : List ℕ) : Type 0 where
   pub room : 64 ≤ length o
 
 -- a reply's text is legal, and its frame fits the buffer
-pub reply-legal : (t : List ℕ) (r : Record) → Text 4 29 (replyText t r)
-reply-legal t r = subst (Text 4 29) (text-by-steps t r) (text-legal _ r (served-answers (askedIn t) r))
+pub reply-legal : (t : List ℕ) (r : Record) → Text 4 (2 + longest) (replyText t r)
+reply-legal t r = subst (Text 4 (2 + longest)) (text-by-steps t r) (text-legal _ r (served-answers (askedIn t) r))
 
-frame-sizes : (k : Kind) (t : List ℕ) → Text 4 29 t → (7 ≤ length (frameOf k t)) × (length (frameOf k t) ≤ 64)
+frame-sizes : (k : Kind) (t : List ℕ) → Text 4 (2 + longest) t → (7 ≤ length (frameOf k t)) × (length (frameOf k t) ≤ 64)
 frame-sizes Minicomputer t f = omega (arith, frame-length Minicomputer t)
 frame-sizes Terminal t f = omega (arith, frame-length Terminal t)
 
@@ -156,6 +157,10 @@ changes-exactly t r v h g =
 pub is-answered : (k : Kind) (r : Record) (q o : List ℕ) → callOf k r q o .silence ≡ 0 → Answered k r q o
 is-answered k r q o h = ⊎-elim (λ (s : Silenced k r q o). let l = s .low in absurd (omega arith)) (λ (a : Answered k r q o). a) (every-input k r q o)
 
+-- a call that reports a reply's length is answered
+pub is-reported : (k : Kind) (r : Record) (q o : List ℕ) → 0 < callOf k r q o .reported → Answered k r q o
+is-reported k r q o h = ⊎-elim (λ (s : Silenced k r q o). let n = s .nothing in absurd (omega arith)) (λ (a : Answered k r q o). a) (every-input k r q o)
+
 pub host-reads : (k : Kind) (r : Record) (q o o′ : List ℕ) → callOf k r q o .silence ≡ 0 → 64 ≤ length o′
     → readOf k (take (callOf k r q o .reported) (callOf k r q o .buffer)) o′ ≡ (accepted (length (replyText (textIn k q) r)), over (replyText (textIn k q) r) o′)
 host-reads k r q o o′ h l =
@@ -216,6 +221,7 @@ unfolding numberAfter
 address-stays [] r f = refl
 address-stays (becomes g n ∷ cs) r f = let l = f .1 in simp (ne-eqb (position g) (position address) (λ z. omega arith)) (address-stays cs r (f .3))
 address-stays (nextBatch ∷ cs) r f = address-stays cs r f
+address-stays (resetAlarms ∷ cs) r f = address-stays cs r f
 
 -- ---- read-back over two calls: the first an accepted write, the second of either kind with any buffer of 64 bytes or more
 module _ (k k′ : Kind) (r : Record) (q o o′ : List ℕ) (heard : callOf k r q o .silence ≡ 0) (ok : verdict (textIn k q) r ≡ tables.accepted)
@@ -268,7 +274,7 @@ module _ (k k′ : Kind) (r : Record) (q o o′ : List ℕ) (heard : callOf k r 
       let address-so : Shows question was = subst (λ (n : ℕ). AnswersAt k′ next o′ n question was) (left-so address ∙ address-stays effect r (accepted-fits written r ok)) a in
       subst (λ (y : List ℕ). Shows question y) w address-so
 
-  -- ---- EQ and RS after any write: the signs of the fields as it left them
+  -- ---- EQ, RS and EA after any write: the signs of the fields as it left them
   pub status-after : Shows (text "EQ") (statusBy (λ g. numberAfter g effect r) characters)
   status-after = shows-so _ _ _ (status-read k′ next o′ valid-next room) (status-by next (λ g. numberAfter g effect r) left-so)
 
@@ -276,6 +282,9 @@ module _ (k k′ : Kind) (r : Record) (q o o′ : List ℕ) (heard : callOf k r 
   codes-after =
       shows-so _ _ _ (codes-read k′ next o′ valid-next room)
       (ap (λ (y : List ℕ). text "RS " ++ y) (codes-by next (λ g. numberAfter g effect r) left-so statusCodes))
+
+  pub alarms-after : Shows (text "EA") (alarmCharacters (numberAfter alarms effect r))
+  alarms-after = shows-so _ _ _ (alarms-read k′ next o′ valid-next room) (ap alarmCharacters (left-so alarms))
 
   -- ---- PC and XC name a parameter
   named-so : (d : ℕ) → codeIn written ≡ d → argumentsFor d (behindCode written) .place ≡ placeFor parameter → of (PV ∷ XV ∷ PC ∷ XC ∷ []) d ≡ true
@@ -359,3 +368,26 @@ module _ (k k′ : Kind) (r : Record) (q o o′ : List ℕ) (heard : callOf k r 
     pub raw-after-batch : Shows (text "RT R") (text "RT R " ++ digits 8 0)
     unfolding numberAfter
     raw-after-batch = shows-so _ _ _ (raw-read k′ next o′ valid-next room) (ap (λ (n : ℕ). text "RT R " ++ digits 8 n) (after-batch raw))
+
+  -- AR
+  module _ (c : codeIn written ≡ AR) where
+    pub alarms-after-reset : Shows (text "EA") (alarmCharacters (lasting (get alarms r)))
+    unfolding rowOf numberAfter
+    alarms-after-reset =
+        subst (λ (cs : List Change). Shows (text "EA") (alarmCharacters (numberAfter alarms cs r))) (ap (λ (d : ℕ). rowOf d commands .effect x) c) alarms-after
+
+    -- and nothing else of the record is changed
+    pub record-after-reset : next ≡ alarmsReset r
+    unfolding recordAfter applied rowOf
+    record-after-reset =
+        is-answered k r q o heard .next-record ∙ (ap (λ (v : Verdict). recordFor v written r) ok ∙ ap (λ (d : ℕ). applied (rowOf d commands .effect x) r) c)
+
+-- ---- alarms that last are left by AR, and with them the record, whatever it replies
+pub reset-keeps : (k : Kind) (r : Record) (q o : List ℕ) → codeIn (textIn k q) ≡ AR → lasting (get alarms r) ≡ get alarms r → callOf k r q o .after ≡ r
+unfolding put
+reset-keeps k r q o c l =
+    ⊎-elim (λ (s : Silenced k r q o). s .same-record) (λ (a : Answered k r q o). go a (verdict (textIn k q) r) refl) (every-input k r q o)
+  where
+    go : Answered k r q o → (v : Verdict) → verdict (textIn k q) r ≡ v → callOf k r q o .after ≡ r
+    go a (NO n) e = a .next-record ∙ refusal-keeps (textIn k q) r n e
+    go a tables.accepted e = record-after-reset k k r q o o (a .heard) e (a .room) c ∙ ap (λ (n : ℕ). put alarms n r) l

@@ -1,5 +1,5 @@
--- Document 01, "Worked on the bench record": the starred examples of the controller as whole frames, computed on the definition
--- that the promise of `call` cites. One table under one statement. Assumes nothing.
+-- Document 01, "Worked on the bench record", and 02's EA: the starred examples of the controller as whole frames, computed on the
+-- definition that the promise of `call` cites. One table under one statement. Assumes nothing.
 use Prim.Native.Nat.{ℕ}
 use Prim.Native.String.{String}
 use mathlib.Core.Path.{_≡_, refl}
@@ -10,13 +10,14 @@ use Rattle.base.specs.Test.{allBetween}
 use Rattle.base.specs.Text.{text}
 use Rattle.state.specs.declared.Record.{Record}
 use Rattle.state.specs.Parameter.{codeAt, placeIn, placeOf, rangeAt}
+use Rattle.state.specs.Alarm.{characterValues}
 use Rattle.state.specs.Field.{phaseOf, put}
 use Rattle.state.specs.Valid.{allIn, valid}
 use Rattle.frame.specs.declared.Kind.the-variants.{Minicomputer}
 use Rattle.frame.specs.Frame.{namesUnit, addressIn, xorFrom, frameOf, textIn, withinLimits, marksRight, checkRight}
 use Rattle.base.specs.Lists.{over}
 use Rattle.text.specs.Word.{digits, valueFrom, equal}
-use Rattle.command.specs.Status.{weightIn, statusCharacters, codesOn}
+use Rattle.command.specs.Status.{weightIn, statusCharacters, alarmCharacters, codesOn}
 use Rattle.command.specs.Commands.{codeIn, digitsBetween, formed, applied, rowOf}
 use Rattle.command.specs.Answer.{firstOf, verdict, replyText, recordAfter}
 use Rattle.command.specs.Bench.{bench}
@@ -51,7 +52,7 @@ pub framing : framed "01EQ" ∷ framed "01000000" ∷ framed "01OK" ∷ [] ≡ E
 unfolding check
 framing = refl
 
--- ---- the examples, in the order of document 01
+-- ---- the examples, in the order of the documents
 infix 70 _gets_
 abbrev pub _gets_ : List ℕ → List ℕ → Step
 q gets a = record { request = q; reply = a }
@@ -74,6 +75,8 @@ table =
     ∷ framed "01PC 032 7999" gets framed "01NO06"
     ∷ framed "01PC 032 8000" gets framed "01NO05"
     ∷ framed "01PC 807 5" gets framed "01NO07"
+    -- 02, L1: no alarm
+    ∷ framed "01EA" gets framed "0100000"
     ∷ []
 
 -- ---- the calls: a reply buffer of 64 bytes; each call gets the record that the last returned
@@ -89,5 +92,5 @@ replies r [] = []
 replies r (q ∷ qs) = heard (called r q) ∷ replies (called r q .after) qs
 
 pub worked : replies bench (map (λ s. s .request) table) ≡ map (λ s. (length (s .reply), s .reply)) table
-unfolding replies check bench callOf valid allIn rangeAt placeOf placeIn withinLimits marksRight checkRight xorFrom textIn allBetween namesUnit addressIn frameOf over replyText recordAfter verdict firstOf codeIn formed digitsBetween valueFrom equal rowOf digits weightIn statusCharacters codesOn codeAt applied put phaseOf
+unfolding replies check bench callOf valid allIn rangeAt placeOf placeIn withinLimits marksRight checkRight xorFrom textIn allBetween namesUnit addressIn frameOf over replyText recordAfter verdict firstOf codeIn formed digitsBetween valueFrom equal rowOf digits weightIn statusCharacters alarmCharacters characterValues codesOn codeAt applied put phaseOf
 worked = refl

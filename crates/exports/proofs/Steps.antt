@@ -1,12 +1,13 @@
 -- What the code's returns give is what the definitions of specs/ say: one law for each return. Assumes nothing.
 use Prim.Native.Nat.{ℕ, _+_, _^_, _≤_, _<_}
-use mathlib.Core.Bool.{true}
+use mathlib.Core.Bool.{true, false}
 use mathlib.Core.Path.{_≡_, refl, sym, ap, subst, _∙_}
 use mathlib.Core.List.{List}
 use mathlib.Core.Logic.{⊎-elim}
 use native.Mathlib.Omega.{arith}
+use lib.Dec.{leb}
 use lib.ListN.{length}
-use borrow.Author.Tests.{eq-eqb, ne-eqb, le-leb, lt-leb}
+use borrow.Author.Tests.{eq-eqb, ne-eqb, le-leb, lt-leb, leb-true}
 use Rattle.base.proofs.Lists.{over-all}
 use Rattle.base.specs.Lists.{over}
 use Rattle.state.specs.declared.Record.{Record}
@@ -21,7 +22,8 @@ use Rattle.stored.specs.declared.Written.{Written}
 use Rattle.stored.specs.Layout.{current}
 use Rattle.stored.specs.Form as stored
 use Rattle.stored.specs.Form.{K, done, refusalNumber, answerAs, writtenAs, storedLength, storedForm, writeOf}
-use Rattle.stored.proofs.RoundTrip.{stored-177, form-length, read-valid, read-tells}
+use Rattle.stored.proofs.RoundTrip.{stored-180, form-length, read-valid, read-tells}
+use Rattle.stored.proofs.Versions.{by-versions}
 use Rattle.frame.specs.declared.Kind.{Kind}
 use Rattle.frame.specs.declared.Kind.the-variants.{Minicomputer, Terminal}
 use Rattle.frame.specs.declared.Silence.{Silence}
@@ -44,7 +46,7 @@ use Rattle.recording.specs.Statement as statement
 use Rattle.judging.specs.declared.Judgement.{Judgement}
 use Rattle.judging.specs.declared.Judgement.the-variants as judgement
 use Rattle.judging.specs.Judge.{judgementAs}
-use Rattle.exports.specs.Bytes.{silenceAnswer, storedAnswer, noSuch, hostAnswer, hostLeft, kindOf, eventOf, callLeft, callRead, callBytes, panelRead, panelBytes, storedBytes, buildBytes, readBytes, judgeNumbers}
+use Rattle.exports.specs.Bytes.{silenceAnswer, storedAnswer, noSuch, hostAnswer, hostLeft, kindOf, eventOf, hasRoom, callLeft, callRead, callBytes, panelRead, panelBytes, storedBytes, buildBytes, readBytes, judgeNumbers}
 
 -- ---- kinds
 pub kind-minicomputer : (n : ℕ) → n ≡ 0 → Minicomputer ≡ kindOf n
@@ -116,20 +118,38 @@ written r o b w v l e =
     let d : writeOf r o ≡ (done, over (storedForm r) o) = simp (v, le-leb _ _ l) in
     ap (λ (p : stored.Outcome × List ℕ). p .1) (e ∙ d)
 
+-- stored bytes that have room for the form that is written are of the version that is
+whole-room : (s : List ℕ) (r : Record) → stored.readOf s ≡ (done, r) → hasRoom s ≡ true → length s ≡ storedLength current
+unfolding storedLength
+whole-room s r e h =
+    let t = read-tells s r e in
+    let version : ℕ = stored.versionOf (length s) in
+    let low = leb-true (storedLength current) (length s) h in
+    let high = leb-true (storedLength version) (storedLength current) (by-versions (λ v. leb (storedLength v) (storedLength current)) refl version (t .known)) in
+    let long : length s ≡ storedLength version = t .long in
+    omega arith
+
 -- in place of stored bytes that were read
 replaced : (r : Record) (s b : List ℕ) (w : Written) → valid r ≡ true → length s ≡ storedLength current → (writtenAs w, b) ≡ writeOf r s → b ≡ storedForm r
 replaced r s b w v l e = written r s b w v (omega arith) e ∙ over-all (storedForm r) s (omega (arith, form-length r))
 
--- ---- `khuyapesh_stored`
-pub stored-short : (s o : List ℕ) → length o < 177 → (storedAnswer (K 6), o) ≡ storedBytes s o
-unfolding storedBytes
-stored-short s o h = simp (stored-177, lt-leb 177 (length o) h)
+-- whether a buffer has room
+no-room : (o : List ℕ) → length o < 180 → hasRoom o ≡ false
+no-room o h = simp stored-180 (lt-leb 180 (length o) h)
 
-pub stored-written : (s o b : List ℕ) (a : Answer) (r : Record) (w : Written) (x : ℕ) → 177 ≤ length o → (answerAs a, r) ≡ stored.readOf s
+pub room-for : (o : List ℕ) → 180 ≤ length o → hasRoom o ≡ true
+room-for o h = simp stored-180 (le-leb 180 (length o) h)
+
+-- ---- `khuyapesh_stored`
+pub stored-short : (s o : List ℕ) → length o < 180 → (206, o) ≡ storedBytes s o
+unfolding storedBytes
+stored-short s o h = simp (stored-180, lt-leb 180 (length o) h)
+
+pub stored-written : (s o b : List ℕ) (a : Answer) (r : Record) (w : Written) (x : ℕ) → 180 ≤ length o → (answerAs a, r) ≡ stored.readOf s
     → (writtenAs w, b) ≡ writeOf r o → x ≡ storedAnswer (answerAs a) → (x, b) ≡ storedBytes s o
 unfolding storedBytes
 stored-written s o b a r w x h e d q =
-    let l : storedLength current ≤ length o = omega (arith, stored-177) in
+    let l : storedLength current ≤ length o = omega (arith, stored-180) in
     ap (λ (y : List ℕ). (x, y)) (written r o b w (record-valid s a r e) l d) ∙ (ap (λ (y : ℕ). (y, over (storedForm r) o)) q
     ∙ (ap (λ (p : stored.Outcome × Record). (storedAnswer (p .0), over (storedForm (p .1)) o)) e ∙ simp (le-leb _ _ l)))
 
@@ -137,26 +157,31 @@ pub ruleset storing = (stored-short, stored-written)
 
 -- ---- `khuyapesh_panel`
 module _ (n p : ℕ) (s : List ℕ) where
-  pub panel-none : 4 < n → (noSuch, s) ≡ panelBytes n p s
+  pub panel-none : 6 < n → (noSuch, s) ≡ panelBytes n p s
   unfolding panelBytes
-  panel-none h = simp (lt-leb n 4 h)
+  panel-none h = simp (lt-leb n 6 h)
 
-  module _ (low : n ≤ 4) (a : Answer) (r : Record) (e : (answerAs a, r) ≡ stored.readOf s) where
+  module _ (low : n ≤ 6) (a : Answer) (r : Record) (e : (answerAs a, r) ≡ stored.readOf s) where
     read-so : (q : stored.Outcome × Record) → stored.readOf s ≡ q → panelRead (eventOf n p) q s ≡ panelBytes n p s
     unfolding panelBytes
-    read-so q h = ap (λ (y : stored.Outcome × Record). panelRead (eventOf n p) y s) (sym h) ∙ simp (le-leb n 4 low)
+    read-so q h = ap (λ (y : stored.Outcome × Record). panelRead (eventOf n p) y s) (sym h) ∙ simp (le-leb n 6 low)
 
     pub panel-refused : (w : Refusal) (x : ℕ) → a ≡ Refused w → x ≡ storedAnswer (K (refusalNumber w)) → (x, s) ≡ panelBytes n p s
     panel-refused w x h q = ap (λ (y : ℕ). (y, s)) q ∙ read-so (K (refusalNumber w), r) (read-refused s a r e w h)
 
-    pub panel-stored : (v : Event) (t : Record) (w : Written) (b : List ℕ) → a ≡ Whole → v ≡ eventOf n p → t ≡ after v r → (writtenAs w, b) ≡ writeOf t s → (0, b) ≡ panelBytes n p s
-    panel-stored v t w b h i f d =
+    pub panel-no-room : a ≡ Whole → length s < 180 → (206, s) ≡ panelBytes n p s
+    panel-no-room h l = simp (no-room s l) at (read-so (done, r) (read-whole s a r e h))
+
+    pub panel-stored : (v : Event) (t : Record) (w : Written) (b : List ℕ) → a ≡ Whole → 180 ≤ length s → v ≡ eventOf n p → t ≡ after v r
+        → (writtenAs w, b) ≡ writeOf t s → (0, b) ≡ panelBytes n p s
+    panel-stored v t w b h m i f d =
         let g : t ≡ after (eventOf n p) r = f ∙ ap (λ (y : Event). after y r) i in
         let k : valid t ≡ true = ap valid g ∙ after-kept r (record-valid s a r e) (eventOf n p) in
-        let l : length s ≡ storedLength current = read-tells s r (read-whole s a r e h) .long in
-        ap (λ (y : List ℕ). (0, y)) (replaced t s b w k l d ∙ ap storedForm g) ∙ read-so (done, r) (read-whole s a r e h)
+        let room = room-for s m in
+        let l = whole-room s r (read-whole s a r e h) room in
+        ap (λ (y : List ℕ). (0, y)) (replaced t s b w k l d ∙ ap storedForm g) ∙ simp room at (read-so (done, r) (read-whole s a r e h))
 
-pub ruleset happening = (panel-none, panel-refused, panel-stored)
+pub ruleset happening = (panel-none, panel-refused, panel-no-room, panel-stored)
 
 -- ---- one call on a record
 silence-low : (w : Silence) → 1 ≤ silenceNumber w
@@ -194,13 +219,13 @@ module _ (k : Kind) (r : Record) (q o : List ℕ) (a : controller.Answer) (t : R
         let c : m ≡ callOf k r q o .reported = ap (λ (y : Outcome). y .reported) heard in
         ⊎-elim (λ (x : Silenced k r q o). omega (arith, x .nothing)) (λ (x : Answered k r q o). omega (arith, x .high)) (every-input k r q o)
 
-    pub left-reply : (s d : List ℕ) (w : Written) → stored.readOf s ≡ (done, r) → (writtenAs w, d) ≡ writeOf t s → (m, (d, b)) ≡ callLeft (callOf k r q o) s o
+    pub left-reply : (s d : List ℕ) (w : Written) → stored.readOf s ≡ (done, r) → hasRoom s ≡ true → (writtenAs w, d) ≡ writeOf t s → (m, (d, b)) ≡ callLeft (callOf k r q o) s o
     unfolding callLeft
-    left-reply s d w f i =
+    left-reply s d w f g i =
         let v : valid r ≡ true = ap (λ (p : stored.Outcome × Record). valid (p .1)) (sym f) ∙ read-valid s in
         let j : t ≡ callOf k r q o .after = ap (λ (y : Outcome). y .after) heard in
         let u : valid t ≡ true = ap valid j ∙ call-keeps-valid k r q o v in
-        let l : length s ≡ storedLength current = read-tells s r f .long in
+        let l = whole-room s r f g in
         ap (λ (y : List ℕ). (m, (y, b))) (replaced t s d w u l i) ∙ ap (λ (y : Outcome). callLeft y s o) heard
 
 pub ruleset calling = (left-silent, left-reply)
@@ -219,10 +244,15 @@ module _ (n : ℕ) (s q o : List ℕ) where
     pub call-refused : (w : Refusal) (x : ℕ) → a ≡ Refused w → x ≡ storedAnswer (K (refusalNumber w)) → (x, (s, o)) ≡ callBytes n s q o
     call-refused w x h i = ap (λ (y : ℕ). (y, (s, o))) i ∙ called-so (K (refusalNumber w), r) (read-refused s a r e w h)
 
-    pub call-answered : (k : Kind) (x : ℕ) (d b : List ℕ) → a ≡ Whole → k ≡ kindOf n → (x, (d, b)) ≡ callLeft (callOf k r q o) s o → (x, (d, b)) ≡ callBytes n s q o
-    call-answered k x d b h i f = f ∙ (ap (λ (y : Kind). callLeft (callOf y r q o) s o) i ∙ called-so (done, r) (read-whole s a r e h))
+    pub call-no-room : a ≡ Whole → length s < 180 → (206, (s, o)) ≡ callBytes n s q o
+    call-no-room h l = simp (no-room s l) at (called-so (done, r) (read-whole s a r e h))
 
-pub ruleset serving = (call-none, call-refused, call-answered)
+    pub call-answered : (k : Kind) (x : ℕ) (d b : List ℕ) → a ≡ Whole → 180 ≤ length s → k ≡ kindOf n → (x, (d, b)) ≡ callLeft (callOf k r q o) s o
+        → (x, (d, b)) ≡ callBytes n s q o
+    call-answered k x d b h l i f =
+        f ∙ (ap (λ (y : Kind). callLeft (callOf y r q o) s o) i ∙ simp (room-for s l) at (called-so (done, r) (read-whole s a r e h)))
+
+pub ruleset serving = (call-none, call-refused, call-no-room, call-answered)
 
 -- ---- judging
 module _ (j : Judgement) (a : statement.Judgement) (e : judgementAs j ≡ a) where

@@ -11,16 +11,16 @@ use lib.ListN.{length, take, drop, getD}
 use lib.Seq.{take-length}
 use borrow.Author.Tests.{eq-eqb, ne-eqb, le-leb, leb-true}
 use Rattle.base.proofs.Lists.{over-all}
-use Rattle.base.specs.Test.{unless, between}
+use Rattle.base.specs.Test.{unless, between, member}
 use Rattle.base.specs.Lists.{over}
 use Rattle.state.specs.declared.Record.{Record}
 use Rattle.state.specs.Valid.{valid}
 use Rattle.state.specs.Event.{after}
 use Rattle.state.specs.Field.{address, get}
 use Rattle.state.proofs.Kept.{after-kept}
-use Rattle.stored.specs.Layout.{current, items, headerWidth, slotsFrom, putAll}
+use Rattle.stored.specs.Layout.{Item, versions, current, items, headerWidth, slotsFrom, putAll}
 use Rattle.stored.specs.Form as stored
-use Rattle.stored.specs.Form.{K, done, numberOf, numbersIn, allIn, storedLength, storedForm, writeOf, headerOf, lowRecord, takenFrom, bodyOf, afterHeader}
+use Rattle.stored.specs.Form.{K, done, numberOf, numbersIn, allFit, storedLength, versionOf, storedForm, writeOf, headerOf, lowRecord, takenFrom, bodyOf, afterHeader}
 use Rattle.stored.proofs.RoundTrip.{form-length, read-valid, read-written}
 use Rattle.frame.specs.declared.Kind.{Kind}
 use Rattle.frame.specs.Frame.{allText, namesUnit, addressIn, frameOf, textIn, withinLimits, marksRight, checkRight}
@@ -30,7 +30,7 @@ use Rattle.frame.proofs.Laws.{frame-length, tail-low, framed, found-sizes, take
 use Rattle.frame.proofs.RoundTrip.{read-built}
 use Rattle.controller.specs.Call.{Outcome, silent, replied, callOf}
 use Rattle.controller.proofs.Theorems.{Silenced, Answered, every-input, call-keeps-valid}
-use Rattle.exports.specs.Bytes.{silenceAnswer, storedAnswer, noSuch, hostLeft, isKind, kindOf, isEvent, eventOf, callLeft, callRead, callBytes, panelRead, panelBytes, storedBytes, buildBytes, readBytes}
+use Rattle.exports.specs.Bytes.{silenceAnswer, storedAnswer, noSuch, hostLeft, isKind, kindOf, isEvent, eventOf, hasRoom, callLeft, callRead, callBytes, panelRead, panelBytes, storedBytes, buildBytes, readBytes}
 use Rattle.exports.proofs.Steps.{tail-high}
 
 -- what holds of both holds of the one that a test leaves
@@ -40,6 +40,17 @@ either P false x y p q = p
 
 abbrev pub Within : ℕ → ℕ → ℕ → Type 0
 Within low high n = (low ≤ n) × (n ≤ high)
+
+-- K1 to K4 or K6, and the numbers that are answered for them
+abbrev pub Stored : ℕ → Type 0
+Stored n = Within 1 4 n ⊎ (n ≡ 6)
+
+abbrev pub StoredAnswer : ℕ → Type 0
+StoredAnswer n = Within 201 204 n ⊎ (n ≡ 206)
+
+stored-answered : (n : ℕ) → Stored n → StoredAnswer (200 + n)
+stored-answered n (inl w) = inl (omega arith)
+stored-answered n (inr e) = inr (omega arith)
 
 -- ---- stored bytes are refused by K1 to K4, and beside the number stands the low record
 abbrev Header : stored.Outcome → Type 0
@@ -53,7 +64,7 @@ Reading (done, r) = Unit {0}
 header-known : (s : List ℕ) → Header (headerOf s)
 unfolding headerOf
 header-known s =
-    go (eqb (length s) (storedLength current)) (eqb (getD s 0 0) current) (eqb (numberOf (take 2 (drop 1 s))) (storedLength current))
+    go (member (versionOf (length s)) versions) (eqb (getD s 0 0) (versionOf (length s))) (eqb (numberOf (take 2 (drop 1 s))) (length s))
   where
     go : (a b c : Bool) → Header (unless a (K 1) (unless b (K 2) (unless c (K 3) done)))
     go false b c = omega arith
@@ -65,13 +76,13 @@ read-known : (s : List ℕ) → Reading (stored.readOf s)
 unfolding stored.readOf bodyOf takenFrom
 read-known s = go (headerOf s) (header-known s)
   where
-    body : (b : Bool) → Reading (unless b (K 4, lowRecord) (done, putAll (items current) (numbersIn (slotsFrom headerWidth (items current)) s) lowRecord))
-    body true = tt
-    body false = (omega arith, refl)
+    body : (xs : List Item) (ns : List ℕ) (b : Bool) → Reading (unless b (K 4, lowRecord) (done, putAll xs ns lowRecord))
+    body xs ns true = tt
+    body xs ns false = (omega arith, refl)
 
     go : (h : stored.Outcome) → Header h → Reading (afterHeader h s)
     go (K n) k = (k, refl)
-    go done k = body (allIn (slotsFrom headerWidth (items current)) (numbersIn (slotsFrom headerWidth (items current)) s))
+    go done k = body _ _ (allFit (items (versionOf (length s))) (numbersIn (slotsFrom headerWidth (items (versionOf (length s)))) s))
 
 read-refusal : (s : List ℕ) (n : ℕ) (r : Record) → stored.readOf s ≡ (K n, r) → Within 1 4 n × (r ≡ lowRecord)
 read-refusal s n r e = subst Reading e (read-known s)
@@ -110,7 +121,7 @@ never-first k r q o v =
 
 -- ---- `khuyapesh_call`
 
--- on bytes that are stored right it answers as `callOf` says
+-- on bytes that are stored right, in the version that is written, it answers as `callOf` says
 module _ (kind : ℕ) (s q o : List ℕ) where
   module _ (r : Record) where
     abbrev called : Outcome
@@ -125,18 +136,26 @@ module _ (kind : ℕ) (s q o : List ℕ) where
     left-silent h = simp (ne-eqb _ _ h)
 
     module _ (known : kind ≤ 1) (e : stored.readOf s ≡ (done, r)) where
-      whole : callBytes kind s q o ≡ callLeft called s o
+      read-so : callBytes kind s q o ≡ callRead (kindOf kind) (done, r) s q o
       unfolding callBytes
-      whole = simp (le-leb kind 1 known) (ap (λ (p : stored.Outcome × Record). callRead (kindOf kind) p s q o) e)
+      read-so = simp (le-leb kind 1 known) (ap (λ (p : stored.Outcome × Record). callRead (kindOf kind) p s q o) e)
 
-      pub call-heard : called .silence ≡ 0 → callBytes kind s q o ≡ (called .reported, (storedForm (called .after), called .buffer))
-      call-heard h = whole ∙ left-heard h
+      module _ (room : hasRoom s ≡ true) where
+        whole : callBytes kind s q o ≡ callLeft called s o
+        whole = simp room at read-so
 
-      pub call-silent : (called .silence ≡ 0 → ⊥) → callBytes kind s q o ≡ (silenceAnswer (called .silence), (s, o))
-      call-silent h = whole ∙ left-silent h
+        pub call-heard : called .silence ≡ 0 → callBytes kind s q o ≡ (called .reported, (storedForm (called .after), called .buffer))
+        call-heard h = whole ∙ left-heard h
+
+        pub call-silent : (called .silence ≡ 0 → ⊥) → callBytes kind s q o ≡ (silenceAnswer (called .silence), (s, o))
+        call-silent h = whole ∙ left-silent h
+
+      -- those of an older version meet K6, and all stays
+      pub call-older : hasRoom s ≡ false → callBytes kind s q o ≡ (206, (s, o))
+      call-older none = simp none at read-so
 
   -- the cases of a call
-  call-cases : (P : ℕ × (List ℕ × List ℕ) → Type 0) → P (noSuch, (s, o)) → ((n : ℕ) → Within 1 4 n → P (200 + n, (s, o)))
+  call-cases : (P : ℕ × (List ℕ × List ℕ) → Type 0) → P (noSuch, (s, o)) → ((n : ℕ) → Stored n → P (200 + n, (s, o)))
       → ((n : ℕ) → Within 2 8 n → P (silenceAnswer n, (s, o)))
       → ((r : Record) → stored.readOf s ≡ (done, r) → Answered (kindOf kind) r q o → P (called r .reported, (storedForm (called r .after), called r .buffer)))
       → P (callBytes kind s q o)
@@ -144,22 +163,23 @@ module _ (kind : ℕ) (s q o : List ℕ) where
   call-cases P none refused silenced heard = either P (isKind kind) (noSuch, (s, o)) (callRead (kindOf kind) (stored.readOf s) s q o) none (go (stored.readOf s) refl)
     where
       go : (x : stored.Outcome × Record) → stored.readOf s ≡ x → P (callRead (kindOf kind) x s q o)
-      go (K n, r) e = refused n (read-refusal s n r e .0)
+      go (K n, r) e = refused n (inl (read-refusal s n r e .0))
       go (done, r) e =
-          ⊎-elim
+          either P (hasRoom s) (206, (s, o)) (callLeft (called r) s o) (refused 6 (inr refl))
+          (⊎-elim
           (λ (x : Silenced (kindOf kind) r q o).
           let l : 1 ≤ called r .silence = x .low in
           let h : called r .silence ≤ 8 = x .high in
           let z : called r .silence ≡ 1 → ⊥ = never-first (kindOf kind) r q o (read-so-valid s r e) in
           subst P (sym (left-silent r (λ y. omega arith))) (silenced (called r .silence) (omega arith)))
           (λ (x : Answered (kindOf kind) r q o). subst P (sym (left-heard r (x .heard))) (heard r e x))
-          (every-input (kindOf kind) r q o)
+          (every-input (kindOf kind) r q o))
 
-  -- "the reply's length", "or 300, then 201 to 204, then 102 to 108"; so 101 never comes back, and an answer below 100 is a reply
-  pub call-numbers : Within 7 64 (callBytes kind s q o .0) ⊎ (Within 102 108 (callBytes kind s q o .0) ⊎ (Within 201 204 (callBytes kind s q o .0) ⊎ (callBytes kind s q o .0 ≡ 300)))
+  -- "the reply's length", "or no such kind, then K1 to K4, then K6, then S2 to S8"; so 101 never comes back, and an answer below 100 is a reply
+  pub call-numbers : Within 7 64 (callBytes kind s q o .0) ⊎ (Within 102 108 (callBytes kind s q o .0) ⊎ (StoredAnswer (callBytes kind s q o .0) ⊎ (callBytes kind s q o .0 ≡ 300)))
   call-numbers =
-      call-cases (λ (p : ℕ × (List ℕ × List ℕ)). Within 7 64 (p .0) ⊎ (Within 102 108 (p .0) ⊎ (Within 201 204 (p .0) ⊎ (p .0 ≡ 300)))) (inr (inr (inr refl)))
-      (λ n w. inr (inr (inl (omega arith)))) (λ n w. inr (inl (omega arith))) (λ r e x. inl (x .low, x .high))
+      call-cases (λ (p : ℕ × (List ℕ × List ℕ)). Within 7 64 (p .0) ⊎ (Within 102 108 (p .0) ⊎ (StoredAnswer (p .0) ⊎ (p .0 ≡ 300)))) (inr (inr (inr refl)))
+      (λ n w. inr (inr (inl (stored-answered n w)))) (λ n w. inr (inl (omega arith))) (λ r e x. inl (x .low, x .high))
 
   -- "A refusal or silence leaves every lent byte as it was"
   pub call-keeps : 100 ≤ callBytes kind s q o .0 → callBytes kind s q o .1 ≡ (s, o)
@@ -177,30 +197,30 @@ module _ (kind : ℕ) (s q o : List ℕ) where
       ∙ ap (λ (y : stored.Outcome × Record). (done, callOf (kindOf kind) (y .1) q o .after)) (sym e))
 
 -- ---- `khuyapesh_panel`
-module _ (event pulses : ℕ) (s : List ℕ) where
-  panel-cases : (P : ℕ × List ℕ → Type 0) → P (noSuch, s) → ((n : ℕ) → Within 1 4 n → P (200 + n, s))
-      → ((r : Record) → stored.readOf s ≡ (done, r) → P (0, storedForm (after (eventOf event pulses) r))) → P (panelBytes event pulses s)
+module _ (event number : ℕ) (s : List ℕ) where
+  panel-cases : (P : ℕ × List ℕ → Type 0) → P (noSuch, s) → ((n : ℕ) → Stored n → P (200 + n, s))
+      → ((r : Record) → stored.readOf s ≡ (done, r) → P (0, storedForm (after (eventOf event number) r))) → P (panelBytes event number s)
   unfolding panelBytes
-  panel-cases P none refused stored-so = either P (isEvent event) (noSuch, s) (panelRead (eventOf event pulses) (stored.readOf s) s) none (go (stored.readOf s) refl)
+  panel-cases P none refused stored-so = either P (isEvent event) (noSuch, s) (panelRead (eventOf event number) (stored.readOf s) s) none (go (stored.readOf s) refl)
     where
-      go : (x : stored.Outcome × Record) → stored.readOf s ≡ x → P (panelRead (eventOf event pulses) x s)
-      go (K n, r) e = refused n (read-refusal s n r e .0)
-      go (done, r) e = stored-so r e
+      go : (x : stored.Outcome × Record) → stored.readOf s ≡ x → P (panelRead (eventOf event number) x s)
+      go (K n, r) e = refused n (inl (read-refusal s n r e .0))
+      go (done, r) e = either P (hasRoom s) (206, s) (0, storedForm (after (eventOf event number) r)) (refused 6 (inr refl)) (stored-so r e)
 
-  pub panel-numbers : (panelBytes event pulses s .0 ≡ 0) ⊎ (Within 201 204 (panelBytes event pulses s .0) ⊎ (panelBytes event pulses s .0 ≡ 300))
+  pub panel-numbers : (panelBytes event number s .0 ≡ 0) ⊎ (StoredAnswer (panelBytes event number s .0) ⊎ (panelBytes event number s .0 ≡ 300))
   panel-numbers =
-      panel-cases (λ (p : ℕ × List ℕ). (p .0 ≡ 0) ⊎ (Within 201 204 (p .0) ⊎ (p .0 ≡ 300))) (inr (inr refl)) (λ n w. inr (inl (omega arith))) (λ r e. inl refl)
+      panel-cases (λ (p : ℕ × List ℕ). (p .0 ≡ 0) ⊎ (StoredAnswer (p .0) ⊎ (p .0 ≡ 300))) (inr (inr refl)) (λ n w. inr (inl (stored-answered n w))) (λ r e. inl refl)
 
-  pub panel-keeps : 100 ≤ panelBytes event pulses s .0 → panelBytes event pulses s .1 ≡ s
+  pub panel-keeps : 100 ≤ panelBytes event number s .0 → panelBytes event number s .1 ≡ s
   panel-keeps = panel-cases (λ (p : ℕ × List ℕ). 100 ≤ p .0 → p .1 ≡ s) (λ h. refl) (λ n w h. refl) (λ r e h. absurd (omega arith))
 
-  pub panel-stores : panelBytes event pulses s .0 ≡ 0 → stored.readOf (panelBytes event pulses s .1) ≡ (done, after (eventOf event pulses) (stored.readOf s .1))
+  pub panel-stores : panelBytes event number s .0 ≡ 0 → stored.readOf (panelBytes event number s .1) ≡ (done, after (eventOf event number) (stored.readOf s .1))
   panel-stores =
-      panel-cases (λ (p : ℕ × List ℕ). p .0 ≡ 0 → stored.readOf (p .1) ≡ (done, after (eventOf event pulses) (stored.readOf s .1))) (λ h. absurd (omega arith))
+      panel-cases (λ (p : ℕ × List ℕ). p .0 ≡ 0 → stored.readOf (p .1) ≡ (done, after (eventOf event number) (stored.readOf s .1))) (λ h. absurd (omega arith))
       (λ n w h. absurd (omega arith))
       (λ r e h.
-      form-read (after (eventOf event pulses) r) (after-kept r (read-so-valid s r e) (eventOf event pulses))
-      ∙ ap (λ (y : stored.Outcome × Record). (done, after (eventOf event pulses) (y .1))) (sym e))
+      form-read (after (eventOf event number) r) (after-kept r (read-so-valid s r e) (eventOf event number))
+      ∙ ap (λ (y : stored.Outcome × Record). (done, after (eventOf event number) (y .1))) (sym e))
 
 -- ---- `khuyapesh_stored`: a refused form gives the low record
 pub low-written : (s o : List ℕ) (n : ℕ) (r : Record) → storedLength current ≤ length o → stored.readOf s ≡ (K n, r) → storedBytes s o ≡ (200 + n, over (storedForm lowRecord) o)

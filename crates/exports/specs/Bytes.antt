@@ -1,4 +1,5 @@
--- include/khuyapesh.h: what each function answers and what every lent byte then is, by the definitions of document 01.
+-- include/khuyapesh.h: what each function answers and what every lent byte then is, by the definitions of documents 01 and
+-- 02.
 -- s are the stored bytes, q the request, t a text, f a frame, and o the buffer that is written.
 use Prim.Native.Nat.{ℕ, _+_}
 use mathlib.Core.Bool.{Bool}
@@ -9,7 +10,7 @@ use Rattle.base.specs.Test.{pick, unless}
 use Rattle.base.specs.Lists.{over}
 use Rattle.state.specs.declared.Record.{Record}
 use Rattle.state.specs.declared.Event.{Event}
-use Rattle.state.specs.declared.Event.the-variants.{Pulses, Still, KeypadOn, KeypadOff, PowerBack}
+use Rattle.state.specs.declared.Event.the-variants.{Pulses, Still, KeypadOn, KeypadOff, PowerBack, AlarmOn, AlarmOff}
 use Rattle.state.specs.Event.{after}
 use Rattle.stored.specs.Layout.{current}
 use Rattle.stored.specs.Form as stored
@@ -51,13 +52,19 @@ isKind n = leb n 1
 abbrev pub kindOf : ℕ → Kind
 kindOf n = pick (eqb n 0) Minicomputer Terminal
 
--- "KHUYAPESH_PULSES 0", "KHUYAPESH_STILL 1", "KHUYAPESH_KEYPAD_ON 2", "KHUYAPESH_KEYPAD_OFF 3", "KHUYAPESH_POWER_BACK 4";
--- "pulses is read by KHUYAPESH_PULSES alone"
+-- "KHUYAPESH_PULSES 0", "KHUYAPESH_STILL 1", "KHUYAPESH_KEYPAD_ON 2", "KHUYAPESH_KEYPAD_OFF 3", "KHUYAPESH_POWER_BACK 4",
+-- "KHUYAPESH_ALARM_ON 5", "KHUYAPESH_ALARM_OFF 6"; the number is "the count of pulses .. or the alarm's number"
 abbrev pub isEvent : ℕ → Bool
-isEvent n = leb n 4
+isEvent n = leb n 6
 
 abbrev pub eventOf : ℕ → ℕ → Event
-eventOf n pulses = pick (eqb n 0) (Pulses pulses) (pick (eqb n 1) Still (pick (eqb n 2) KeypadOn (pick (eqb n 3) KeypadOff PowerBack)))
+eventOf n number =
+    pick (eqb n 0) (Pulses number)
+    (pick (eqb n 1) Still (pick (eqb n 2) KeypadOn (pick (eqb n 3) KeypadOff (pick (eqb n 4) PowerBack (pick (eqb n 5) (AlarmOn number) (AlarmOff number))))))
+
+-- a buffer has room for the form that is written; "in place of the stored record" the bytes of an older version have not
+abbrev pub hasRoom : List ℕ → Bool
+hasRoom s = leb (storedLength current) (length s)
 
 -- ---- khuyapesh_call: the answer, the stored bytes and the reply buffer
 
@@ -68,9 +75,9 @@ callLeft c s o = pick (eqb (c .silence) 0) (c .reported, (storedForm (c .after),
 
 abbrev pub callRead : Kind → stored.Outcome × Record → List ℕ → List ℕ → List ℕ → ℕ × (List ℕ × List ℕ)
 callRead k (K n, r) s q o = (storedAnswer (K n), (s, o))
-callRead k (done, r) s q o = callLeft (callOf k r q o) s o
+callRead k (done, r) s q o = unless (hasRoom s) (storedAnswer (K 6), (s, o)) (callLeft (callOf k r q o) s o)
 
--- "or 300, then 201 to 204, then 102 to 108"
+-- "no such kind, then K1 to K4, then K6 .., then S2 to S8"
 unfoldable pub callBytes : ℕ → List ℕ → List ℕ → List ℕ → ℕ × (List ℕ × List ℕ)
 callBytes kind s q o = unless (isKind kind) (noSuch, (s, o)) (callRead (kindOf kind) (stored.readOf s) s q o)
 
@@ -79,11 +86,11 @@ callBytes kind s q o = unless (isKind kind) (noSuch, (s, o)) (callRead (kindOf k
 -- "0, with the record after it in place of the stored record"
 abbrev pub panelRead : Event → stored.Outcome × Record → List ℕ → ℕ × List ℕ
 panelRead e (K n, r) s = (storedAnswer (K n), s)
-panelRead e (done, r) s = (0, storedForm (after e r))
+panelRead e (done, r) s = unless (hasRoom s) (storedAnswer (K 6), s) (0, storedForm (after e r))
 
--- "or 300, then 201 to 204"
+-- "no such event, then K1 to K4, then K6"
 unfoldable pub panelBytes : ℕ → ℕ → List ℕ → ℕ × List ℕ
-panelBytes event pulses s = unless (isEvent event) (noSuch, s) (panelRead (eventOf event pulses) (stored.readOf s) s)
+panelBytes event number s = unless (isEvent event) (noSuch, s) (panelRead (eventOf event number) (stored.readOf s) s)
 
 -- ---- khuyapesh_stored: the answer and the buffer
 
@@ -91,7 +98,7 @@ panelBytes event pulses s = unless (isEvent event) (noSuch, s) (panelRead (event
 -- 204, and then the record written is the low one ..; or 206 if out is under KHUYAPESH_STORED_LENGTH bytes, with out untouched"
 unfoldable pub storedBytes : List ℕ → List ℕ → ℕ × List ℕ
 storedBytes s o =
-    unless (leb (storedLength current) (length o)) (storedAnswer (K 6), o)
+    unless (hasRoom o) (storedAnswer (K 6), o)
     (storedAnswer (stored.readOf s .0), over (storedForm (stored.readOf s .1)) o)
 
 -- ---- khuyapesh_build and khuyapesh_read: the answer and the buffer

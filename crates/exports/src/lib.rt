@@ -10,13 +10,14 @@ use state::Record;
 use stored::Refusal;
 use stored::STORED_LENGTH;
 ghost use mathlib.Core.Path.{_≡_};
+ghost use mathlib.Core.Bool.{true};
 ghost use Prim.Native.Nat.{_≤_};
 ghost use Rattle.stored.specs.Form.{K, done, refusalNumber, answerAs};
 ghost use Rattle.stored.specs.Form as form;
 ghost use Rattle.frame.specs.Numbers.{silenceNumber, lengthIn, builtAs, readAs};
 ghost use Rattle.controller.specs.Call.{callOf};
 ghost use Rattle.judging.specs.Judge.{judgementOf};
-ghost use Rattle.exports.specs.Bytes.{silenceAnswer, storedAnswer, hostAnswer, kindOf, eventOf, callLeft, callBytes, panelBytes, storedBytes, buildBytes, readBytes, judgeNumbers};
+ghost use Rattle.exports.specs.Bytes.{silenceAnswer, storedAnswer, hostAnswer, kindOf, eventOf, hasRoom, callLeft, callBytes, panelBytes, storedBytes, buildBytes, readBytes, judgeNumbers};
 
 // ---- the numbers that are answered
 
@@ -38,7 +39,10 @@ const RECORDING: u32 = 500;
 // The highest numbers of a kind and of an event.
 const LAST_KIND: u8 = 1;
 
-const LAST_EVENT: u8 = 4;
+const LAST_EVENT: u8 = 6;
+
+// No room for the form that is written.
+const NO_ROOM: u32 = STORED + 6;
 
 fn silence_number(why: Silence) -> u32
     ensures { λ n. ⌜ (n ≡ silenceNumber why) × (n ≤ 8) ⌝ }
@@ -121,15 +125,17 @@ fn kind_of(kind: u8) -> Kind
     Kind::Terminal
 }
 
-fn event_of(event: u8, pulses: u16) -> Event
-    ensures { λ e. ⌜ e ≡ eventOf event pulses ⌝ }
+fn event_of(event: u8, number: u16) -> Event
+    ensures { λ e. ⌜ e ≡ eventOf event number ⌝ }
 {
     match event {
-        0 => Event::Pulses(pulses),
+        0 => Event::Pulses(number),
         1 => Event::Still,
         2 => Event::KeypadOn,
         3 => Event::KeypadOff,
-        _ => Event::PowerBack,
+        4 => Event::PowerBack,
+        5 => Event::AlarmOn(number),
+        _ => Event::AlarmOff(number),
     }
 }
 
@@ -143,7 +149,7 @@ fn call_record(
     request: &[u8],
     reply: &mut [u8],
 ) -> u32
-    requires { ⌜ form.readOf (now stored) ≡ (done, before) ⌝ }
+    requires { ⌜ (form.readOf (now stored) ≡ (done, before)) × (hasRoom (now stored) ≡ true) ⌝ }
     ensures { λ n. ⌜ (n, (now (stored .exit), now (reply .exit))) ≡ callLeft (callOf kind before (now (request .entry)) (now (reply .entry))) (now (stored .entry)) (now (reply .entry)) ⌝ }
 {
     let called = controller::call(kind, before, request, reply);
@@ -175,7 +181,12 @@ pub extern "C" fn khuyapesh_call(
     let answer = reading.answer;
     let before = reading.record;
     match answer {
-        stored::Answer::Whole => call_record(kind_of(kind), before, stored, request, reply),
+        stored::Answer::Whole => {
+            if stored.len() < STORED_LENGTH {
+                return NO_ROOM;
+            }
+            call_record(kind_of(kind), before, stored, request, reply)
+        }
         stored::Answer::Refused(why) => refusal_answer(why),
     }
 }
@@ -184,8 +195,8 @@ pub extern "C" fn khuyapesh_call(
 
 // One event of the panel.
 #[no_mangle]
-pub extern "C" fn khuyapesh_panel(event: u8, pulses: u16, stored: &mut [u8]) -> u32
-    ensures { λ n. ⌜ (n, now (stored .exit)) ≡ panelBytes event pulses (now (stored .entry)) ⌝ }
+pub extern "C" fn khuyapesh_panel(event: u8, number: u16, stored: &mut [u8]) -> u32
+    ensures { λ n. ⌜ (n, now (stored .exit)) ≡ panelBytes event number (now (stored .entry)) ⌝ }
 {
     if LAST_EVENT < event {
         return NO_SUCH;
@@ -195,7 +206,10 @@ pub extern "C" fn khuyapesh_panel(event: u8, pulses: u16, stored: &mut [u8]) -> 
     let before = reading.record;
     match answer {
         stored::Answer::Whole => {
-            stored::write(before.after(event_of(event, pulses)), stored);
+            if stored.len() < STORED_LENGTH {
+                return NO_ROOM;
+            }
+            stored::write(before.after(event_of(event, number)), stored);
             0
         }
         stored::Answer::Refused(why) => refusal_answer(why),
@@ -210,7 +224,7 @@ pub extern "C" fn khuyapesh_stored(stored: &[u8], out: &mut [u8]) -> u32
     ensures { λ n. ⌜ (n, now (out .exit)) ≡ storedBytes (now (stored .entry)) (now (out .entry)) ⌝ }
 {
     if out.len() < STORED_LENGTH {
-        return STORED + 6;
+        return NO_ROOM;
     }
     let reading = stored::read(stored);
     let answer = reading.answer;

@@ -15,10 +15,10 @@ use Rattle.state.specs.Field.{Field, access, value, get, position, fieldRange}
 use Rattle.state.specs.Valid.{within}
 use Rattle.state.proofs.Fields.{Held}
 use Rattle.knowledge.specs.declared.Knowledge.{Knowledge}
-use Rattle.knowledge.specs.Sets.{several, single, kindOf, maskIn, only, has}
-use Rattle.knowledge.specs.Knowledge.{codeAt, dead, recoded, restricted, told, passing, holding}
+use Rattle.knowledge.specs.Sets.{single, kindOf, maskIn, only, has, alone}
+use Rattle.knowledge.specs.Knowledge.{codeAt, dead, recoded, restricted, told, settled, passing, holding}
 use Rattle.knowledge.proofs.Possible.{Possible, Kept}
-use Rattle.knowledge.proofs.Codes.{small, has-within, has-only, only-has, only-self, only-same, never-any, passed, some-passed, none-empty}
+use Rattle.knowledge.proofs.Codes.{Testable, testable-beyond, has-within, has-only, only-has, only-self, only-same, never-any, passed, some-passed, none-empty, alone-has, alone-same}
 use Rattle.knowledge.proofs.Recode.{recode-own, recode-told, recode-left, recode-kept}
 
 -- ---- no record
@@ -37,10 +37,10 @@ left : Field → (ℕ → Bool) → Knowledge → ℕ
 left f p k = bitAnd (codeAt (position f) k) (maskIn f p)
 
 module _ (k : Knowledge) (r : Record) (f : Field) (p : ℕ → Bool) (full : length (k .codes) ≡ position (value parameterCount)) (held : Held f)
-    (kind : kindOf f ≡ several) where
+    (testable : Testable f p) where
   own : has f (left f p k) (get f r) ≡ (has f (codeAt (position f) k) (get f r) && p (get f r))
   unfolding left
-  own = passed f p kind (codeAt (position f) k) (get f r)
+  own = passed f p testable (codeAt (position f) k) (get f r)
 
   pub passing-told : Possible (passing f p k) r → Possible k r × (p (get f r) ≡ true)
   unfolding restricted left
@@ -61,17 +61,17 @@ module _ (k : Knowledge) (r : Record) (f : Field) (p : ℕ → Bool) (full : len
       has-left = own ∙ and-yes (has f (codeAt (position f) k) (get f r)) (p (get f r)) (t .each f held) q
 
       go : (b : Bool) → eqb (left f p k) 0 ≡ b → Possible (pick b (dead k) (recoded (position f) (left f p k) k)) r
-      go true e = absurd (none-empty f (get f r) kind (ap (λ (c : ℕ). has f c (get f r)) (sym (eqb-true _ _ e)) ∙ has-left))
+      go true e = absurd (none-empty f p (get f r) testable (ap (λ (c : ℕ). has f c (get f r)) (sym (eqb-true _ _ e)) ∙ has-left))
       go false e = recode-left k r f (left f p k) full held t has-left
 
-pub passing-kept : {a c : ℕ} (k : Knowledge) (f : Field) (p : ℕ → Bool) → Kept a c k → Held f → kindOf f ≡ several → Kept a c (passing f p k)
+pub passing-kept : {a c : ℕ} (k : Knowledge) (f : Field) (p : ℕ → Bool) → Kept a c k → Held f → Testable f p → Kept a c (passing f p k)
 unfolding restricted left
-passing-kept {a} {c} k f p kept held kind = go (eqb (left f p k) 0) refl
+passing-kept {a} {c} k f p kept held testable = go (eqb (left f p k) 0) refl
   where
     go : (b : Bool) → eqb (left f p k) 0 ≡ b → Kept a c (pick b (dead k) (recoded (position f) (left f p k) k))
     go true e = dead-kept k kept
     go false e =
-        recode-kept k f (left f p k) kept held (small f kind .beyond) (λ alive. some-passed f p kind (codeAt (position f) k) (eqb-false _ _ e))
+        recode-kept k f (left f p k) kept held (testable-beyond f p testable) (λ alive. some-passed f p testable (codeAt (position f) k) (eqb-false _ _ e))
 
 -- ---- a number
 module _ (k : Knowledge) (r : Record) (f : Field) (n : ℕ) (full : length (k .codes) ≡ position (value parameterCount)) (held : Held f)
@@ -109,4 +109,31 @@ holding-kept {a} {c} k f n kept held kind beyond = go (within (fieldRange f) n &
     go true e =
         let w = and-left (within (fieldRange f) n) (only (codeAt (position f) k) n) e in
         recode-kept k f n kept held beyond (λ alive. (n, only-has f n n kind w (only-self n)))
+    go false e = dead-kept k kept
+
+-- ---- a number, of a field of any kind
+module _ (k : Knowledge) (r : Record) (f : Field) (n : ℕ) (full : length (k .codes) ≡ position (value parameterCount)) (held : Held f) where
+  pub settled-told : Possible (settled f n k) r → Possible k r × (get f r ≡ n)
+  unfolding settled
+  settled-told = go (has f (codeAt (position f) k) n) refl
+    where
+      go : (b : Bool) → has f (codeAt (position f) k) n ≡ b → Possible (pick b (recoded (position f) (alone f n) k) (dead k)) r → Possible k r × (get f r ≡ n)
+      go true e t =
+          let same : get f r ≡ n = alone-same f n (has-within f (codeAt (position f) k) n e) (get f r) held (recode-own k r f (alone f n) full held t) in
+          (recode-told k r f (alone f n) full held t (ap (has f (codeAt (position f) k)) same ∙ e), same)
+      go false e t = absurd (dead-none k r t)
+
+  pub settled-left : Possible k r → get f r ≡ n → Possible (settled f n k) r
+  unfolding settled
+  settled-left t same =
+      let h : has f (codeAt (position f) k) n ≡ true = ap (has f (codeAt (position f) k)) (sym same) ∙ t .each f held in
+      subst (λ (b : Bool). Possible (pick b (recoded (position f) (alone f n) k) (dead k)) r) (sym h)
+      (recode-left k r f (alone f n) full held t (ap (has f (alone f n)) same ∙ alone-has f n (has-within f (codeAt (position f) k) n h)))
+
+pub settled-kept : {a c : ℕ} (k : Knowledge) (f : Field) (n : ℕ) → Kept a c k → Held f → position access < position f → Kept a c (settled f n k)
+unfolding settled
+settled-kept {a} {c} k f n kept held beyond = go (has f (codeAt (position f) k) n) refl
+  where
+    go : (b : Bool) → has f (codeAt (position f) k) n ≡ b → Kept a c (pick b (recoded (position f) (alone f n) k) (dead k))
+    go true e = recode-kept k f (alone f n) kept held beyond (λ alive. (n, alone-has f n (has-within f (codeAt (position f) k) n e)))
     go false e = dead-kept k kept

@@ -1,5 +1,6 @@
 pub mod Steps
 pub mod Bits
+pub mod Alarms
 pub mod Codes
 pub mod Possible
 pub mod Recode

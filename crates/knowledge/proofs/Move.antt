@@ -1,6 +1,6 @@
 -- Moves are exact: a record is possible after a move exactly if it comes from one that was possible before; and what is kept stays kept.
--- Both moves put into a field a number that depends on the field alone, so one law serves them. Assumes nothing.
-use Prim.Native.Nat.{ℕ, _-_, _<_}
+-- Each move puts into a field a number that depends on the field alone, so one law serves them. Assumes nothing.
+use Prim.Native.Nat.{ℕ, _-_, _≤_, _<_}
 use mathlib.Core.Bool.{Bool, true, false}
 use mathlib.Core.Path.{_≡_, refl, sym, ap, ap₂, _∙_}
 use native.Mathlib.Omega.{arith}
@@ -11,18 +11,21 @@ use Rattle.base.specs.Test.{pick}
 use Rattle.base.proofs.Tests.{between-yes, between-low, between-high}
 use Rattle.state.specs.declared.Record.{Record}
 use Rattle.state.specs.Parameter.{parameterCount}
-use Rattle.state.specs.Field.{Field, access, number, value, get, put, position, fieldRange}
+use Rattle.state.specs.Alarm.{noAlarm, allAlarms, lasting}
+use Rattle.state.specs.Field.{Field, access, number, alarms, value, get, put, position, fieldRange}
 use Rattle.state.specs.Valid.{within, valid}
 use Rattle.state.specs.Event.{nextNumber}
+use Rattle.state.proofs.Alarms.{lasting-within}
 use Rattle.state.proofs.Fields.{Held, get-put-same, get-put-other}
 use Rattle.state.proofs.Validity.{valid-tell}
 use Rattle.state.proofs.Kept.{field-in, put-kept, next-within}
 use Rattle.state.proofs.Whole.{same-fields}
 use Rattle.knowledge.specs.declared.Knowledge.{Knowledge}
-use Rattle.knowledge.specs.Sets.{anyNumber, only, has, alone}
-use Rattle.knowledge.specs.Knowledge.{codeAt, recoded, becoming, advanced}
+use Rattle.knowledge.specs.Sets.{anyNumber, only, has, alone, resetCode}
+use Rattle.knowledge.specs.Knowledge.{codeAt, recoded, becoming, advanced, alarmsLeft}
 use Rattle.knowledge.proofs.Possible.{Possible, Kept}
-use Rattle.knowledge.proofs.Codes.{has-within, has-only, only-has, only-self, only-same, never-any, any-has, alone-has, alone-same}
+use Rattle.knowledge.proofs.Alarms.{reset-in, reset-from}
+use Rattle.knowledge.proofs.Codes.{has-yes, has-within, has-set, has-only, only-has, only-self, only-same, never-any, any-has, alone-has, alone-same}
 use Rattle.knowledge.proofs.Recode.{each-field, code-same, code-other, recode-own, recode-kept}
 
 -- ---- a field's number w becomes `step w`, and its code becomes another
@@ -145,3 +148,34 @@ unfolding advanced next
 advanced-kept k kept =
     recode-kept k number (next (codeAt (position number) k)) kept (omega arith) (omega arith)
     (λ alive. let b = kept .some alive number (omega arith) in (nextNumber (b .0), next-has (codeAt (position number) k) (b .0) (b .1)))
+
+-- ---- AR
+
+-- the lasting of the alarms in a set are in what is left of it, and each of these comes from one
+reset-has : (c w : ℕ) → has alarms c w ≡ true → has alarms (resetCode c) (lasting w) ≡ true
+reset-has c w h = has-yes alarms (resetCode c) (lasting w) (lasting-within w (has-within alarms c w h)) (reset-in c w (has-set alarms c w h))
+
+reset-back : (c m v : ℕ) → has alarms c v ≡ true → has alarms (resetCode c) m ≡ true → (w : ℕ) × (has alarms c w ≡ true) × (lasting w ≡ m)
+reset-back c m v some h =
+    let limit : (d n : ℕ) → has alarms d n ≡ true → n ≤ allAlarms = λ d n t. between-high noAlarm allAlarms n (has-within alarms d n t) in
+    let (w, l, on, e) = reset-from c m v (limit c v some) (has-set alarms c v some) (limit (resetCode c) m h) (has-set alarms (resetCode c) m h) in
+    (w, has-yes alarms c w (between-yes noAlarm allAlarms w (omega arith) l) on, e)
+
+pub alarms-left-onward : (k : Knowledge) (r : Record) → length (k .codes) ≡ position (value parameterCount) → Possible k r
+    → Possible (alarmsLeft k) (put alarms (lasting (get alarms r)) r)
+unfolding alarmsLeft
+alarms-left-onward k r full t =
+    move-onward k alarms (λ n. lasting n) (resetCode (codeAt (position alarms) k)) full (omega arith) r (reset-has (codeAt (position alarms) k)) t
+
+pub alarms-left-back : {a c : ℕ} (k : Knowledge) (s : Record) → Kept a c k → Possible (alarmsLeft k) s
+    → (r : Record) × Possible k r × (put alarms (lasting (get alarms r)) r ≡ s)
+unfolding alarmsLeft
+alarms-left-back k s kept t =
+    move-back k alarms (λ n. lasting n) (resetCode (codeAt (position alarms) k)) (kept .full) (omega arith) s
+    (λ alive m h. let b = kept .some alive alarms (omega arith) in reset-back (codeAt (position alarms) k) m (b .0) (b .1) h) t
+
+pub alarms-left-kept : {a c : ℕ} (k : Knowledge) → Kept a c k → Kept a c (alarmsLeft k)
+unfolding alarmsLeft
+alarms-left-kept k kept =
+    recode-kept k alarms (resetCode (codeAt (position alarms) k)) kept (omega arith) (omega arith)
+    (λ alive. let b = kept .some alive alarms (omega arith) in (lasting (b .0), reset-has (codeAt (position alarms) k) (b .0) (b .1)))

@@ -1,5 +1,5 @@
 -- What the code's returns give is what the definitions of the steps of knowledge say. Assumes nothing.
-use Prim.Native.Nat.{ℕ, zero, suc, _+_, _-_, _*_, _≤_, _<_}
+use Prim.Native.Nat.{ℕ, zero, suc, _+_, _-_, _*_, _/_, _%_, _^_, _≤_, _<_}
 use mathlib.Core.Bool.{Bool, true, false, not}
 use mathlib.Core.Path.{_≡_, refl, sym, ap, _∙_}
 use mathlib.Core.List.{List, [], _∷_, _++_, map, map-append, append-assoc, append-nil}
@@ -9,14 +9,16 @@ use lib.Dec.{eqb}
 use lib.ListN.{List·getD-eq-default, length, set, replicate, length-append}
 use lib.Seq.{set-out, set-at}
 use lib.Bits.{bitAnd}
-use borrow.Author.Tests.{eq-eqb, ne-eqb, lt-ltb, le-ltb, not-true, not-false}
+use borrow.Author.Tests.{eq-eqb, ne-eqb, le-leb, lt-leb, lt-ltb, le-ltb, not-true, not-false}
+use Rattle.base.proofs.Tests.{between-yes, between-no}
 use Rattle.state.specs.declared.Range.{Range}
 use Rattle.state.specs.Parameter.{parameterCount}
-use Rattle.state.specs.Field.{address, access, number, value, level, position, fieldRange, fieldsFor}
+use Rattle.state.specs.Alarm.{noAlarm, allAlarms, lasting}
+use Rattle.state.specs.Field.{address, access, number, alarms, value, level, position, fieldRange, fieldsFor}
 use Rattle.state.specs.Valid.{within}
 use Rattle.knowledge.specs.declared.Knowledge.{Knowledge}
-use Rattle.knowledge.specs.Sets.{maskFrom, anyNumber, any}
-use Rattle.knowledge.specs.Knowledge.{codeAt, dead, recoded, restricted, told, advanced, start}
+use Rattle.knowledge.specs.Sets.{bit, maskFrom, anyNumber, anyLasting, above, alarmsIn, justAlarms, resetCode, has, any, alone}
+use Rattle.knowledge.specs.Knowledge.{codeAt, dead, recoded, restricted, told, settled, advanced, alarmsLeft, start}
 
 -- ---- one code: beyond the last position there is none
 module _ (k : Knowledge) (p n : ℕ) (full : length (k .codes) ≡ n) (beyond : n ≤ p) where
@@ -72,6 +74,81 @@ module _ (k s : Knowledge) (c : ℕ) where
       unfolding advanced
       advance-round l e = e ∙ simp (← known, ne-eqb _ _ one, le-ltb _ _ l)
 
+-- ---- the alarms' codes
+
+-- of a code of 32 bits, all that is above the lowest
+above-half : (c : ℕ) → c < 2 ^ 32 → c / 2 ≡ above c
+above-half c h = omega arith
+
+module _ (c n : ℕ) (fits : c < 2 ^ 32) where
+  pub may-none-such : allAlarms < n → false ≡ has alarms c n
+  unfolding has
+  may-none-such l = simp (between-no noAlarm allAlarms n (λ p q. omega arith))
+
+  module _ (l : n ≤ allAlarms) where
+    may : (b : Bool) → b ≡ alarmsIn c n → b ≡ has alarms c n
+    unfolding has
+    may b e = e ∙ simp (between-yes noAlarm allAlarms n (omega arith) l)
+
+    pub may-none : n ≡ 0 → eqb (c % 2) 1 ≡ has alarms c n
+    unfolding alarmsIn bit
+    may-none z = may (eqb (c % 2) 1) (simp (eq-eqb n 0 z))
+
+    module _ (some : n ≡ 0 → ⊥) where
+      pub may-just : c / 2 ≤ allAlarms → eqb (c / 2) n ≡ has alarms c n
+      unfolding alarmsIn
+      may-just h = may (eqb (c / 2) n) (simp (ne-eqb n 0 some, ← above-half c fits, le-leb _ _ h))
+
+      module _ (more : allAlarms < c / 2) where
+        pub may-lasting : c / 2 ≡ anyLasting → (m : ℕ) → m ≡ lasting n → eqb m n ≡ has alarms c n
+        unfolding alarmsIn
+        may-lasting e m f = may (eqb m n) (simp (ne-eqb n 0 some, ← above-half c fits, lt-leb _ _ more, eq-eqb _ _ e, f))
+
+        pub may-any : (c / 2 ≡ anyLasting → ⊥) → true ≡ has alarms c n
+        unfolding alarmsIn
+        may-any e = may true (simp (ne-eqb n 0 some, ← above-half c fits, lt-leb _ _ more, ne-eqb _ _ e))
+
+module _ (c : ℕ) (fits : c < 2 ^ 32) where
+  module _ (h : c / 2 ≤ allAlarms) (m : ℕ) (e : m ≡ lasting (c / 2)) where
+    pub reset-none : m ≡ 0 → 1 ≡ resetCode c
+    unfolding resetCode
+    reset-none z = simp (← above-half c fits, le-leb _ _ h, ← e, eq-eqb _ _ z)
+
+    pub reset-just : (m ≡ 0 → ⊥) → c % 2 + 2 * m ≡ resetCode c
+    unfolding resetCode
+    reset-just z = simp (← above-half c fits, le-leb _ _ h, ← e, ne-eqb _ _ z)
+
+  module _ (more : allAlarms < c / 2) where
+    pub reset-lasting : c / 2 ≡ anyLasting → c % 2 + 2 * anyLasting ≡ resetCode c
+    unfolding resetCode
+    reset-lasting e = simp (← above-half c fits, lt-leb _ _ more, eq-eqb _ _ e)
+
+    pub reset-any : (c / 2 ≡ anyLasting → ⊥) → 1 + 2 * anyLasting ≡ resetCode c
+    unfolding resetCode
+    reset-any e = simp (← above-half c fits, lt-leb _ _ more, ne-eqb _ _ e)
+
+module _ (n : ℕ) where
+  pub just-none : n ≡ 0 → 1 ≡ alone alarms n
+  unfolding justAlarms
+  just-none z = simp (eq-eqb n 0 z)
+
+  pub just-some : (n ≡ 0 → ⊥) → 2 * n ≡ alone alarms n
+  unfolding justAlarms
+  just-some z = simp (ne-eqb n 0 z)
+
+module _ (k s : Knowledge) (c n : ℕ) (known : c ≡ codeAt (position alarms) k) (b : Bool) (inside : b ≡ has alarms c n) where
+  pub settle-other : not b ≡ true → s ≡ dead k → s ≡ settled alarms n k
+  unfolding settled
+  settle-other o e = e ∙ simp (← known, ← inside, not-true b o)
+
+  pub settle-own : (d : ℕ) → not b ≡ false → d ≡ alone alarms n → s ≡ recoded (position alarms) d k → s ≡ settled alarms n k
+  unfolding settled
+  settle-own d i j e = e ∙ simp (← known, ← inside, not-false b i, j)
+
+pub reset-stored : (k s : Knowledge) (c d : ℕ) → c ≡ codeAt (position alarms) k → d ≡ resetCode c → s ≡ recoded (position alarms) d k → s ≡ alarmsLeft k
+unfolding alarmsLeft
+reset-stored k s c d known e f = f ∙ simp (e, known)
+
 -- a level may be any
 abbrev anyLevel : ℕ
 anyLevel = 0xf
@@ -125,3 +202,11 @@ pub ruleset restricting = (restrict-none, restrict-some)
 pub ruleset telling = (tell-outside, tell-other, tell-any, tell-same)
 
 pub ruleset advancing = (advance-any, advance-more, advance-round)
+
+pub ruleset may-be = (may-none-such, may-none, may-just, may-lasting, may-any)
+
+pub ruleset resetting = (reset-none, reset-just, reset-lasting, reset-any)
+
+pub ruleset just = (just-none, just-some)
+
+pub ruleset settling = (settle-other, settle-own)

@@ -8,11 +8,11 @@ use lib.Bits.{bitAnd}
 use Rattle.base.specs.Test.{pick}
 use Rattle.state.specs.declared.Range.{Range}
 use Rattle.state.specs.Parameter.{parameterCount}
-use Rattle.state.specs.Field.{Field, address, access, number, position, fieldRange, fieldsFor}
+use Rattle.state.specs.Field.{Field, address, access, number, alarms, position, fieldRange, fieldsFor}
 use Rattle.state.specs.Valid.{within}
 use Rattle.state.specs.Event.{nextNumber}
 use Rattle.knowledge.specs.declared.Knowledge.{Knowledge}
-use Rattle.knowledge.specs.Sets.{any, alone, maskIn, only, anyNumber}
+use Rattle.knowledge.specs.Sets.{any, alone, maskIn, only, has, anyNumber, resetCode}
 
 -- the code at a position, 0 beyond the last
 unfoldable pub codeAt : ℕ → Knowledge → ℕ
@@ -33,12 +33,15 @@ restricted p m k = pick (eqb (bitAnd (codeAt p k) m) 0) (dead k) (recoded p (bit
 unfoldable pub told : ℕ → Range → ℕ → Knowledge → Knowledge
 told p range n k = pick (within range n && only (codeAt p k) n) (recoded p n k) (dead k)
 
--- the field passes a test (several), the field holds n (single)
+-- the field passes a test (several, alarmed), the field holds n (single), the field holds n (any kind)
 abbrev pub passing : Field → (ℕ → Bool) → Knowledge → Knowledge
 passing f p k = restricted (position f) (maskIn f p) k
 
 abbrev pub holding : Field → ℕ → Knowledge → Knowledge
 holding f n k = told (position f) (fieldRange f) n k
+
+unfoldable pub settled : Field → ℕ → Knowledge → Knowledge
+settled f n k = pick (has f (codeAt (position f) k) n) (recoded (position f) (alone f n) k) (dead k)
 
 -- ---- moves: what a set becomes
 unfoldable pub becoming : Field → ℕ → Knowledge → Knowledge
@@ -47,6 +50,10 @@ becoming f n k = recoded (position f) (alone f n) k
 -- the batch number goes on by one
 unfoldable pub advanced : Knowledge → Knowledge
 advanced k = recoded (position number) (pick (eqb (codeAt (position number) k) anyNumber) anyNumber (nextNumber (codeAt (position number) k))) k
+
+-- AR: the lasting alarms stay
+unfoldable pub alarmsLeft : Knowledge → Knowledge
+alarmsLeft k = recoded (position alarms) (resetCode (codeAt (position alarms) k)) k
 
 -- ---- nothing is known
 abbrev pub unknown : Knowledge

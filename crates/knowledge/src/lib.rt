@@ -1,11 +1,16 @@
 // What is known of a controller's record: one set for each field, as a code at the field's position.
 use base::is_between;
+use state::ALARMS_RANGE;
 use state::NUMBER_RANGE;
 use state::PARAMETERS;
 use state::RECIPE_RANGE;
 use state::Range;
 ghost use mathlib.Core.Path.{_≡_};
-ghost use Rattle.knowledge.specs.Knowledge.{codeAt, dead, recoded, restricted, told, advanced, start};
+ghost use Prim.Native.Nat.{_≤_};
+ghost use Rattle.state.specs.Alarm.{allAlarms};
+ghost use Rattle.state.specs.Field.{alarms};
+ghost use Rattle.knowledge.specs.Sets.{has, alone, resetCode};
+ghost use Rattle.knowledge.specs.Knowledge.{codeAt, dead, recoded, restricted, told, settled, advanced, alarmsLeft, start};
 
 // The fields' positions; a parameter has its value and its level behind one another.
 pub const ADDRESS: usize = 0;
@@ -32,13 +37,15 @@ pub const RAW: usize = 10;
 
 pub const NUMBER: usize = 11;
 
-pub const VALUES: usize = NUMBER + 1;
+pub const ALARMS: usize = 12;
+
+pub const VALUES: usize = ALARMS + 1;
 
 pub const LEVELS: usize = VALUES + 1;
 
 pub const FIELDS: usize = VALUES + 2 * PARAMETERS;
 
-// Of a field of many numbers nothing is known.
+// Of a field of many numbers, or of the alarms, nothing is known.
 pub const ANY: u32 = 0xffffffff;
 
 // All that a field of few numbers can hold: bit n for the number n.
@@ -69,6 +76,15 @@ pub const OFF: u32 = 0x1;
 
 pub const ON: u32 = 0x2;
 
+// Of the alarms: none is on, in the lowest bit; and above it just these, any of the lasting, or any.
+pub const NO_ALARM: u32 = 0x1;
+
+pub const SOME_ALARM: u32 = ANY - NO_ALARM;
+
+const ALL_ALARMS: u32 = ALARMS_RANGE.high;
+
+const ANY_LASTING: u32 = ALL_ALARMS + 1;
+
 // Alive if a record is possible.
 pub struct Knowledge {
     pub alive: bool,
@@ -98,6 +114,57 @@ pub fn begin(address: u8, access: u8) -> Knowledge
         alive: true,
         codes: codes,
     }
+}
+
+// ---- the alarms
+
+// These may be on, by the code of the alarms.
+fn may_be_on(code: u32, n: u32) -> bool
+    ensures { λ b. ⌜ b ≡ has alarms code n ⌝ }
+{
+    if ALL_ALARMS < n {
+        return false;
+    }
+    if n == 0 {
+        return code % 2 == 1;
+    }
+    let on = code / 2;
+    if on <= ALL_ALARMS {
+        return on == n;
+    }
+    if on == ANY_LASTING {
+        return state::lasting(n) == n;
+    }
+    true
+}
+
+// Just these.
+fn just(n: u32) -> u32
+    requires { ⌜ n ≤ allAlarms ⌝ }
+    ensures { λ c. ⌜ c ≡ alone alarms n ⌝ }
+{
+    if n == 0 {
+        return NO_ALARM;
+    }
+    2 * n
+}
+
+// What AR leaves: of just these the lasting, of any any of the lasting, or none.
+fn after_reset(code: u32) -> u32
+    ensures { λ c. ⌜ c ≡ resetCode code ⌝ }
+{
+    let on = code / 2;
+    if on <= ALL_ALARMS {
+        let stay = state::lasting(on);
+        if stay == 0 {
+            return NO_ALARM;
+        }
+        return code % 2 + 2 * stay;
+    }
+    if on == ANY_LASTING {
+        return code % 2 + 2 * ANY_LASTING;
+    }
+    NO_ALARM + 2 * ANY_LASTING
 }
 
 impl Knowledge {
@@ -153,6 +220,23 @@ impl Knowledge {
             return self.refuted();
         }
         self.put(at, n)
+    }
+
+    // Just these alarms are on.
+    pub fn tell_alarms(self, n: u32) -> Knowledge
+        ensures { λ k. ⌜ k ≡ settled alarms n self ⌝ }
+    {
+        if !may_be_on(self.code(ALARMS), n) {
+            return self.refuted();
+        }
+        self.put(ALARMS, just(n))
+    }
+
+    // AR: the lasting alarms stay.
+    pub fn reset_alarms(self) -> Knowledge
+        ensures { λ k. ⌜ k ≡ alarmsLeft self ⌝ }
+    {
+        self.put(ALARMS, after_reset(self.code(ALARMS)))
     }
 
     // The batch number goes on by one, the last to the first.

@@ -13,7 +13,7 @@ use Rattle.state.specs.declared.Record.{Record}
 use Rattle.state.specs.Field.{Field, phase, keypad, level, get}
 use Rattle.state.proofs.Fields.{Held}
 use Rattle.command.specs.Commands.{Arguments}
-use Rattle.command.specs.Refusals.{Row, byText, byArguments, byField, rowNumber, refusals}
+use Rattle.command.specs.Refusals.{Row, byText, byArguments, byField, rowNumber, keypadTaken, levelAbove, wrongPhase, refusals}
 use Rattle.command.specs.Answer.{NO, accepted}
 use Rattle.command.specs.Request.{Guard, guardsIn, guarded}
 use Rattle.command.proofs.Fits.{Sound}
@@ -21,15 +21,16 @@ use Rattle.knowledge.specs.declared.Knowledge.{Knowledge}
 use Rattle.knowledge.specs.Sets.{several, kindOf}
 use Rattle.knowledge.specs.Knowledge.{passing}
 use Rattle.knowledge.proofs.Possible.{Possible, Kept}
+use Rattle.knowledge.proofs.Codes.{Testable, small-testable, alarm-testable, testable-not}
 use Rattle.knowledge.proofs.Cut.{dead-none, dead-kept, passing-told, passing-left, passing-kept}
 use Rattle.learning.specs.Learn.{passed, refusedBy}
 
 -- ---- guards that the laws hold for
 
--- one that looks at one of the record's fields, whose set is a mask, and has a refusal number of two digits
-pub record Fine (m : ℕ) (f : Field) : Type 0 where
+-- one that looks at one of the record's fields, by a test that the field's set has a code for, and has a refusal number of two digits
+pub record Fine (m : ℕ) (f : Field) (p : ℕ → Bool) : Type 0 where
   pub held : Held f
-  pub kind : kindOf f ≡ several
+  pub coded : Testable f p
   pub small : m < 100
 
 -- none has the refusal number n
@@ -40,7 +41,7 @@ without n (g ∷ gs) = not (eqb n (g .refusal)) && without n gs
 -- each is so, and no two have one refusal number
 abbrev pub AllFine : List Guard → Type 0
 AllFine [] = Unit {0}
-AllFine (g ∷ gs) = Fine (g .refusal) (g .field) × (without (g .refusal) gs ≡ true) × AllFine gs
+AllFine (g ∷ gs) = Fine (g .refusal) (g .field) (g .refuses) × (without (g .refusal) gs ≡ true) × AllFine gs
 
 -- one of two, by a test
 pub from-pick : {A P : Type 0} (Q : A → Type 0) (b : Bool) (x y : A) → (b ≡ true → Q x → P) → (b ≡ false → Q y → P) → Q (pick b x y) → P
@@ -109,17 +110,20 @@ first-refuses g gs r n other e =
 abbrev spared : Guard → Knowledge → Knowledge
 spared g k = passing (g .field) (λ n. not (g .refuses n)) k
 
-module _ {a c : ℕ} (g : Guard) (k : Knowledge) (kept : Kept a c k) (fine : Fine (g .refusal) (g .field)) where
+module _ {a c : ℕ} (g : Guard) (k : Knowledge) (kept : Kept a c k) (fine : Fine (g .refusal) (g .field) (g .refuses)) where
+  coded : Testable (g .field) (λ n. not (g .refuses n))
+  coded = testable-not (g .field) (g .refuses) (fine .coded)
+
   spared-told : (r : Record) → Possible (spared g k) r → Possible k r × (refuses g r ≡ false)
   spared-told r t =
-      let (was, h) = passing-told k r (g .field) (λ n. not (g .refuses n)) (kept .full) (fine .held) (fine .kind) t in
+      let (was, h) = passing-told k r (g .field) (λ n. not (g .refuses n)) (kept .full) (fine .held) coded t in
       (was, not-true (refuses g r) h)
 
   spared-left : (r : Record) → Possible k r → refuses g r ≡ false → Possible (spared g k) r
-  spared-left r t h = passing-left k r (g .field) (λ n. not (g .refuses n)) (kept .full) (fine .held) (fine .kind) t (ap not h)
+  spared-left r t h = passing-left k r (g .field) (λ n. not (g .refuses n)) (kept .full) (fine .held) coded t (ap not h)
 
   spared-kept : Kept a c (spared g k)
-  spared-kept = passing-kept k (g .field) (λ n. not (g .refuses n)) kept (fine .held) (fine .kind)
+  spared-kept = passing-kept k (g .field) (λ n. not (g .refuses n)) kept (fine .held) coded
 
 -- ---- all guards are passed
 pub passed-told : {a c : ℕ} (gs : List Guard) (k : Knowledge) (r : Record) → Kept a c k → AllFine gs → Possible (passed gs k) r
@@ -152,7 +156,7 @@ refused-told n [] k r kept fine t = absurd (dead-none k r t)
 refused-told n (g ∷ gs) k r kept fine t =
     from-pick (λ j. Possible j r) (eqb n (g .refusal)) (passing (g .field) (g .refuses) k) (refusedBy n gs (spared g k))
     (λ same here.
-    let (was, h) = passing-told k r (g .field) (g .refuses) (kept .full) (fine .0 .held) (fine .0 .kind) here in
+    let (was, h) = passing-told k r (g .field) (g .refuses) (kept .full) (fine .0 .held) (fine .0 .coded) here in
     (was, refused-here g gs r h ∙ ap NO (sym (eqb-true n (g .refusal) same))))
     (λ other later.
     let (rest, e) = refused-told n gs (spared g k) r (spared-kept g k kept (fine .0)) (fine .2) later in
@@ -166,7 +170,7 @@ refused-left n [] k r kept fine t e = no-number n e
 refused-left n (g ∷ gs) k r kept fine t e =
     let so = first-refuses g gs r n (fine .1) e in
     to-pick (λ j. Possible j r) (eqb n (g .refusal)) (passing (g .field) (g .refuses) k) (refusedBy n gs (spared g k))
-    (λ same. passing-left k r (g .field) (g .refuses) (kept .full) (fine .0 .held) (fine .0 .kind) t (so ∙ same))
+    (λ same. passing-left k r (g .field) (g .refuses) (kept .full) (fine .0 .held) (fine .0 .coded) t (so ∙ same))
     (λ other.
     refused-left n gs (spared g k) r (spared-kept g k kept (fine .0)) (fine .2) (spared-left g k kept (fine .0) r t (so ∙ other))
     (sym (refused-later g gs r (so ∙ other)) ∙ e))
@@ -176,11 +180,11 @@ unfolding refusedBy
 refused-kept n [] k kept fine = dead-kept k kept
 refused-kept {a} {c} n (g ∷ gs) k kept fine =
     to-pick (Kept a c) (eqb n (g .refusal)) (passing (g .field) (g .refuses) k) (refusedBy n gs (spared g k))
-    (λ same. passing-kept k (g .field) (g .refuses) kept (fine .0 .held) (fine .0 .kind))
+    (λ same. passing-kept k (g .field) (g .refuses) kept (fine .0 .held) (fine .0 .coded))
     (λ other. refused-kept n gs (spared g k) (spared-kept g k kept (fine .0)) (fine .2))
 
 -- ---- the guards that rows give for a code c with arguments x
-module _ (c : ℕ) (x : Arguments) where
+module _ (c : ℕ) (x : Arguments) (a : ℕ) where
   -- no row has the number n
   abbrev unnumbered : ℕ → List Row → Bool
   unnumbered n [] = true
@@ -191,36 +195,40 @@ module _ (c : ℕ) (x : Arguments) where
   FineRows [] = Unit {0}
   FineRows (byText m p ∷ rows) = FineRows rows
   FineRows (byArguments m p ∷ rows) = FineRows rows
-  FineRows (byField m codes f p ∷ rows) = (member c codes ≡ true → Fine m (f x)) × (unnumbered m rows ≡ true) × FineRows rows
+  FineRows (byField m codes f p ∷ rows) = (member c codes ≡ true → Fine m (f x) (p c x a)) × (unnumbered m rows ≡ true) × FineRows rows
 
-  module _ (a : ℕ) where
-    rows-without : (n : ℕ) (rows : List Row) → unnumbered n rows ≡ true → without n (guardsIn rows c x a) ≡ true
-    unfolding guardsIn
-    rows-without n [] h = refl
-    rows-without n (byText m p ∷ rows) h = rows-without n rows (and-right (not (eqb n m)) (unnumbered n rows) h)
-    rows-without n (byArguments m p ∷ rows) h = rows-without n rows (and-right (not (eqb n m)) (unnumbered n rows) h)
-    rows-without n (byField m codes f p ∷ rows) h =
-        let rest = rows-without n rows (and-right (not (eqb n m)) (unnumbered n rows) h) in
-        to-pick (λ gs. without n gs ≡ true) (member c codes) _ _ (λ i. and-yes (not (eqb n m)) _ (and-left (not (eqb n m)) (unnumbered n rows) h) rest) (λ i. rest)
+  rows-without : (n : ℕ) (rows : List Row) → unnumbered n rows ≡ true → without n (guardsIn rows c x a) ≡ true
+  unfolding guardsIn
+  rows-without n [] h = refl
+  rows-without n (byText m p ∷ rows) h = rows-without n rows (and-right (not (eqb n m)) (unnumbered n rows) h)
+  rows-without n (byArguments m p ∷ rows) h = rows-without n rows (and-right (not (eqb n m)) (unnumbered n rows) h)
+  rows-without n (byField m codes f p ∷ rows) h =
+      let rest = rows-without n rows (and-right (not (eqb n m)) (unnumbered n rows) h) in
+      to-pick (λ gs. without n gs ≡ true) (member c codes) _ _ (λ i. and-yes (not (eqb n m)) _ (and-left (not (eqb n m)) (unnumbered n rows) h) rest) (λ i. rest)
 
-    rows-fine : (rows : List Row) → FineRows rows → AllFine (guardsIn rows c x a)
-    unfolding guardsIn
-    rows-fine [] h = tt
-    rows-fine (byText m p ∷ rows) h = rows-fine rows h
-    rows-fine (byArguments m p ∷ rows) h = rows-fine rows h
-    rows-fine (byField m codes f p ∷ rows) h =
-        to-pick AllFine (member c codes) _ _ (λ i. (h .0 i, rows-without m rows (h .1), rows-fine rows (h .2))) (λ i. rows-fine rows (h .2))
+  rows-fine : (rows : List Row) → FineRows rows → AllFine (guardsIn rows c x a)
+  unfolding guardsIn
+  rows-fine [] h = tt
+  rows-fine (byText m p ∷ rows) h = rows-fine rows h
+  rows-fine (byArguments m p ∷ rows) h = rows-fine rows h
+  rows-fine (byField m codes f p ∷ rows) h =
+      to-pick AllFine (member c codes) _ _ (λ i. (h .0 i, rows-without m rows (h .1), rows-fine rows (h .2))) (λ i. rows-fine rows (h .2))
 
-    -- the refusals of the table
-    pub guards-fine : Sound c x → AllFine (guardsIn refusals c x a)
-    guards-fine sound =
-        let one : (m : ℕ) (f : Field) → Held f → kindOf f ≡ several → m < 100 → Fine m f = λ m f h e l. record { held = h; kind = e; small = l } in
-        rows-fine refusals (
-          (λ i. one 2 keypad (omega arith) refl (omega arith)),
+  -- the refusals of the table
+  pub guards-fine : Sound c x → AllFine (guardsIn refusals c x a)
+  guards-fine sound =
+      let one : (m : ℕ) (f : Field) (p : ℕ → Bool) → Held f → kindOf f ≡ several → m < 100 → Fine m f p =
+      λ m f p h e l. record { held = h; coded = small-testable f p e; small = l } in
+      rows-fine refusals (
+        (λ i. one 2 keypad (keypadTaken c x a) (omega arith) refl (omega arith)),
+        refl,
+        (
+          (λ i. let l = sound .placed (simp (i, or-true)) in one 7 (level (x .place)) (levelAbove c x a) (omega arith) refl (omega arith)),
           refl,
           (
-            (λ i. let l = sound .placed (simp (i, or-true)) in one 7 (level (x .place)) (omega arith) refl (omega arith)),
+            (λ i. one 5 phase (wrongPhase c x a) (omega arith) refl (omega arith)),
             refl,
-            ((λ i. one 5 phase (omega arith) refl (omega arith)), refl, tt),
+            ((λ i. record { held = omega arith; coded = alarm-testable; small = omega arith }), refl, tt),
           ),
-        )
+        ),
+      )

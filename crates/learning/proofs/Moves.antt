@@ -8,12 +8,12 @@ use Rattle.state.specs.declared.Record.{Record}
 use Rattle.state.specs.Field.{Field, access, position, fieldRange, put}
 use Rattle.state.specs.Valid.{within}
 use Rattle.state.proofs.Fields.{Held}
-use Rattle.command.specs.Commands.{Change, becomes, nextBatch, afterChange, applied}
+use Rattle.command.specs.Commands.{Change, becomes, nextBatch, resetAlarms, afterChange, applied}
 use Rattle.command.proofs.Tables.{Fitting}
 use Rattle.knowledge.specs.declared.Knowledge.{Knowledge}
 use Rattle.knowledge.specs.Knowledge.{becoming}
 use Rattle.knowledge.proofs.Possible.{Possible, Kept}
-use Rattle.knowledge.proofs.Move.{becoming-onward, becoming-back, becoming-kept, advanced-onward, advanced-back, advanced-kept}
+use Rattle.knowledge.proofs.Move.{becoming-onward, becoming-back, becoming-kept, advanced-onward, advanced-back, advanced-kept, alarms-left-onward, alarms-left-back, alarms-left-kept}
 use Rattle.learning.specs.Learn.{movedBy, moved}
 
 -- ---- a move of knowledge that follows a change of the record: what is possible afterwards is the image of what was
@@ -58,9 +58,18 @@ advance =
       keeps = λ k kept. advanced-kept k kept;
     }
 
+reset : Follows (movedBy resetAlarms) (afterChange resetAlarms)
+reset =
+    record {
+      onward = λ k r kept t. alarms-left-onward k r (kept .full) t;
+      back = λ k s kept t. alarms-left-back k s kept t;
+      keeps = λ k kept. alarms-left-kept k kept;
+    }
+
 -- ---- changes
 pub follows : (cs : List Change) → Fitting cs → Follows (moved cs) (applied cs)
 unfolding moved applied
 follows [] h = stays
 follows (becomes f n ∷ cs) h = follows cs (h .3) then become f n (h .0) (h .1) (h .2)
 follows (nextBatch ∷ cs) h = follows cs h then advance
+follows (resetAlarms ∷ cs) h = follows cs h then reset

@@ -6,11 +6,11 @@ use lib.ListN.{length}
 use Rattle.state.specs.Parameter.{parameterCount}
 use Rattle.state.specs.Field.{Field, value, position}
 use Rattle.command.specs.declared.Writing.{Writing}
-use Rattle.command.specs.Commands.{Change, becomes, nextBatch}
+use Rattle.command.specs.Commands.{Change, becomes, nextBatch, resetAlarms}
 use Rattle.command.specs.Request.{changesOf, writingAs}
 use Rattle.knowledge.specs.declared.Knowledge.{Knowledge}
 use Rattle.knowledge.specs.Sets.{alone}
-use Rattle.knowledge.specs.Knowledge.{recoded, becoming, advanced}
+use Rattle.knowledge.specs.Knowledge.{recoded, becoming, advanced, alarmsLeft}
 use Rattle.showing.specs.Shown.{offsetOf}
 use Rattle.showing.proofs.Places.{put-placed}
 use Rattle.learning.specs.Learn.{moved}
@@ -39,4 +39,8 @@ module _ (cs : List Change) (k t s : Knowledge) (before : t ≡ moved cs k) wher
   unfolding moved
   batch-moved h = h ∙ ap advanced before
 
-pub ruleset moving = (moved-as, none-moved, field-moved, batch-moved, refl)
+  pub alarms-moved : s ≡ alarmsLeft t → s ≡ moved (resetAlarms ∷ cs) k
+  unfolding moved
+  alarms-moved h = h ∙ ap alarmsLeft before
+
+pub ruleset moving = (moved-as, none-moved, field-moved, batch-moved, alarms-moved, refl)

@@ -3,20 +3,20 @@ use Prim.Native.Nat.{ℕ, _+_, _-_, _≤_}
 use mathlib.Core.Bool.{Bool, true, false, not, _||_, or-true}
 use mathlib.Core.Path.{_≡_, refl, sym, ap, _∙_}
 use mathlib.Core.Logic.{_⊎_, inl, inr}
-use mathlib.Core.List.{List, [], _∷_, _++_}
+use mathlib.Core.List.{List, [], _∷_, _++_, append-nil}
 use native.Mathlib.Omega.{arith}
 use lib.Dec.{eqb, ltb}
 use lib.ListN.{length}
 use borrow.Author.Tests.{eq-eqb, ne-eqb, le-ltb}
 use Rattle.base.specs.Test.{pick}
 use Rattle.state.specs.Parameter.{parameterCount}
-use Rattle.state.specs.Field.{phase, keypad, value, level, position, fieldRange, off, on, flagNumber}
+use Rattle.state.specs.Field.{phase, keypad, alarms, value, level, position, fieldRange, on, flagNumber}
 use Rattle.command.specs.declared.Guards.{Guards}
 use Rattle.command.specs.declared.Phases.{Phases}
 use Rattle.command.specs.declared.Phases.the-variants.{Any, IdleOrDone, SetOrStopped, Running, SetStoppedOrDone}
-use Rattle.command.specs.Request.{Guard, keypadGuard, levelGuard, keypadGuards, levelGuards, phaseGuards, guardsAs}
+use Rattle.command.specs.Request.{Guard, keypadGuard, levelGuard, alarmGuard, keypadGuards, levelGuards, phaseGuards, alarmGuards, guardsAs}
 use Rattle.knowledge.specs.declared.Knowledge.{Knowledge}
-use Rattle.knowledge.specs.Sets.{maskFrom, maskIn, any, alone}
+use Rattle.knowledge.specs.Sets.{someMask, maskFrom, maskIn, any, alone}
 use Rattle.knowledge.specs.Knowledge.{dead, restricted, passing}
 use Rattle.showing.specs.Shown.{offsetOf}
 use Rattle.showing.proofs.Places.{restrict-placed}
@@ -58,19 +58,19 @@ unfolding maskFrom
 others p = omega (arith, flag-not (p 0), flag-not (p 1), flag-not (p 2), flag-not (p 3))
 
 -- ---- a phase is needed, or not
-by-phases : (p : Phases) (n : ℕ) (k : Knowledge) → let m : ℕ = letThrough (phaseGuards p) in
+by-phases : (p : Phases) (gs : List Guard) (n : ℕ) (k : Knowledge) → let m : ℕ = letThrough (phaseGuards p) in
     (passed (phaseGuards p) k ≡ pick (eqb m 0) k (restricted (position phase) m k))
-    × (refusedBy n (phaseGuards p) k ≡ pick (eqb m 0) (dead k) (pick (eqb n 5) (restricted (position phase) (any phase - m) k) (dead (restricted (position phase) m k))))
+    × (refusedBy n (phaseGuards p ++ gs) k ≡ pick (eqb m 0) (refusedBy n gs k) (pick (eqb n 5) (restricted (position phase) (any phase - m) k) (refusedBy n gs (restricted (position phase) m k))))
 unfolding passed refusedBy maskFrom
-by-phases Any n k = (refl, refl)
-by-phases IdleOrDone n k = (refl, refl)
-by-phases SetOrStopped n k = (refl, refl)
-by-phases Running n k = (refl, refl)
-by-phases SetStoppedOrDone n k = (refl, refl)
+by-phases Any gs n k = (refl, refl)
+by-phases IdleOrDone gs n k = (refl, refl)
+by-phases SetOrStopped gs n k = (refl, refl)
+by-phases Running gs n k = (refl, refl)
+by-phases SetStoppedOrDone gs n k = (refl, refl)
 
 module _ (p : Phases) (k s : Knowledge) (m : ℕ) (e : m ≡ letThrough (phaseGuards p)) where
   passed-so : s ≡ pick (eqb m 0) k (restricted (position phase) m k) → s ≡ passed (phaseGuards p) k
-  passed-so h = h ∙ (ap (λ (x : ℕ). pick (eqb x 0) k (restricted (position phase) x k)) e ∙ sym (by-phases p 0 k .0))
+  passed-so h = h ∙ (ap (λ (x : ℕ). pick (eqb x 0) k (restricted (position phase) x k)) e ∙ sym (by-phases p [] 0 k .0))
 
   pub any-passed : m ≡ 0 → s ≡ k → s ≡ passed (phaseGuards p) k
   any-passed z h = passed-so (h ∙ simp (eq-eqb m 0 z))
@@ -78,34 +78,38 @@ module _ (p : Phases) (k s : Knowledge) (m : ℕ) (e : m ≡ letThrough (phaseGu
   pub some-passed : (m ≡ 0 → ⊥) → s ≡ restricted (position phase) m k → s ≡ passed (phaseGuards p) k
   some-passed z h = passed-so (h ∙ simp (ne-eqb m 0 z))
 
-  module _ (n : ℕ) where
-    met-so : s ≡ pick (eqb m 0) (dead k) (pick (eqb n 5) (restricted (position phase) (any phase - m) k) (dead (restricted (position phase) m k))) → s ≡ refusedBy n (phaseGuards p) k
-    met-so h = h ∙ (ap (λ (x : ℕ). pick (eqb x 0) (dead k) (pick (eqb n 5) (restricted (position phase) (any phase - x) k) (dead (restricted (position phase) x k)))) e ∙ sym (by-phases p n k .1))
+  module _ (gs : List Guard) (n : ℕ) where
+    met-so : s ≡ pick (eqb m 0) (refusedBy n gs k) (pick (eqb n 5) (restricted (position phase) (any phase - m) k) (refusedBy n gs (restricted (position phase) m k)))
+        → s ≡ refusedBy n (phaseGuards p ++ gs) k
+    met-so h =
+        h ∙ (ap (λ (x : ℕ). pick (eqb x 0) (refusedBy n gs k) (pick (eqb n 5) (restricted (position phase) (any phase - x) k) (refusedBy n gs (restricted (position phase) x k)))) e
+        ∙ sym (by-phases p gs n k .1))
 
-    pub any-met : m ≡ 0 → s ≡ dead k → s ≡ refusedBy n (phaseGuards p) k
+    pub any-met : m ≡ 0 → s ≡ refusedBy n gs k → s ≡ refusedBy n (phaseGuards p ++ gs) k
     any-met z h = met-so (h ∙ simp (eq-eqb m 0 z))
 
-    pub some-met : (m ≡ 0 → ⊥) → n ≡ 5 → s ≡ restricted (position phase) (any phase - m) k → s ≡ refusedBy n (phaseGuards p) k
+    pub some-met : (m ≡ 0 → ⊥) → n ≡ 5 → s ≡ restricted (position phase) (any phase - m) k → s ≡ refusedBy n (phaseGuards p ++ gs) k
     some-met z q h = met-so (h ∙ simp (ne-eqb m 0 z, eq-eqb n 5 q))
 
-    pub none-met : (m ≡ 0 → ⊥) → (n ≡ 5 → ⊥) → (t : Knowledge) → t ≡ restricted (position phase) m k → s ≡ dead t → s ≡ refusedBy n (phaseGuards p) k
-    none-met z q t f h = met-so (h ∙ (ap dead f ∙ simp (ne-eqb m 0 z, ne-eqb n 5 q)))
+    pub none-met : (m ≡ 0 → ⊥) → (n ≡ 5 → ⊥) → (t : Knowledge) → t ≡ restricted (position phase) m k → s ≡ refusedBy n gs t
+        → s ≡ refusedBy n (phaseGuards p ++ gs) k
+    none-met z q t f h = met-so (h ∙ (ap (refusedBy n gs) f ∙ simp (ne-eqb m 0 z, ne-eqb n 5 q)))
 
 pub ruleset phase-passing = (any-passed, some-passed)
 
 pub ruleset phase-meeting = (any-met, some-met, none-met)
 
 -- ---- one guard, if it is tested
-module _ (b : Bool) (k s : Knowledge) where
-  pub keypad-passed : b ≡ true → s ≡ restricted (position keypad) (alone keypad off) k → s ≡ passed (keypadGuards b) k
-  unfolding passed maskFrom
-  keypad-passed h e = simp h e
-
-  pub keypad-untested : b ≡ false → s ≡ k → s ≡ passed (keypadGuards b) k
+module _ (b : Bool) (g : Guard) (k s : Knowledge) where
+  pub guard-passed : b ≡ true → s ≡ passing (g .field) (λ n. not (g .refuses n)) k → s ≡ passed (pick b (g ∷ []) []) k
   unfolding passed
-  keypad-untested h e = simp h e
+  guard-passed h e = simp h e
 
-pub ruleset keypad-passing = (keypad-passed, keypad-untested)
+  pub guard-untested : b ≡ false → s ≡ k → s ≡ passed (pick b (g ∷ []) []) k
+  unfolding passed
+  guard-untested h e = simp h e
+
+pub ruleset guard-passing = (guard-passed, guard-untested)
 
 module _ (g : Guards) (a : ℕ) (k s : Knowledge) where
   pub level-untested : g .level ≡ false → s ≡ k → s ≡ passed (levelGuards a g) k
@@ -122,7 +126,7 @@ module _ (g : Guards) (a : ℕ) (k s : Knowledge) where
     unfolding passed allowedLevels
     level-passed e = simp h (restricted-so m _ w e)
 
-    pub level-met : (n : ℕ) → eqb n 7 ≡ true → s ≡ restricted (position (level 0) + o) (any (level 0) - m) k → s ≡ refusedBy n (levelGuards a g ++ phaseGuards (g .phases)) k
+    pub level-met : (n : ℕ) → eqb n 7 ≡ true → s ≡ restricted (position (level 0) + o) (any (level 0) - m) k → s ≡ refusedBy n (levelGuards a g ++ (phaseGuards (g .phases) ++ alarmGuards (g .alarms))) k
     unfolding refusedBy allowedLevels
     level-met n j e =
         let z : any (level 0) - m ≡ maskIn (level 0) (λ i. ltb a i || g .above) = omega (arith, others (λ i. ltb a i || g .above)) in
@@ -150,16 +154,17 @@ unmet b g gs n k (inr h) = simp h
 
 module _ (g : Guards) (a n : ℕ) (k s : Knowledge) where
   abbrev phases-left : List Guard
-  phases-left = phaseGuards (g .phases)
+  phases-left = phaseGuards (g .phases) ++ alarmGuards (g .alarms)
 
   abbrev levels-left : List Guard
-  levels-left = levelGuards a g ++ phaseGuards (g .phases)
+  levels-left = levelGuards a g ++ phases-left
 
-  pub all-passed : (t u : Knowledge) → t ≡ passed (keypadGuards (g .keypad)) k → u ≡ passed (levelGuards a g) t → s ≡ passed phases-left u
-      → s ≡ passed (guardsAs a g) k
-  all-passed t u e f h =
-      h ∙ (ap (passed phases-left) f ∙ (sym (append-passed (levelGuards a g) phases-left t)
-      ∙ (ap (passed levels-left) e ∙ sym (append-passed (keypadGuards (g .keypad)) levels-left k))))
+  pub all-passed : (t u v : Knowledge) → t ≡ passed (keypadGuards (g .keypad)) k → u ≡ passed (levelGuards a g) t → v ≡ passed (phaseGuards (g .phases)) u
+      → s ≡ passed (alarmGuards (g .alarms)) v → s ≡ passed (guardsAs a g) k
+  all-passed t u v e f i h =
+      h ∙ (ap (passed (alarmGuards (g .alarms))) i ∙ (sym (append-passed (phaseGuards (g .phases)) (alarmGuards (g .alarms)) u)
+      ∙ (ap (passed phases-left) f ∙ (sym (append-passed (levelGuards a g) phases-left t)
+      ∙ (ap (passed levels-left) e ∙ sym (append-passed (keypadGuards (g .keypad)) levels-left k))))))
 
   pub keypad-met : g .keypad ≡ true → eqb n 2 ≡ true → s ≡ restricted (position keypad) (alone keypad on) k → s ≡ refusedBy n (guardsAs a g) k
   unfolding refusedBy maskFrom
@@ -172,3 +177,13 @@ module _ (g : Guards) (a n : ℕ) (k s : Knowledge) where
   pub level-unmet : (t : Knowledge) → Unmet (g .level) n 7 → t ≡ passed (levelGuards a g) k → s ≡ refusedBy n phases-left t
       → s ≡ refusedBy n levels-left k
   level-unmet t h f e = e ∙ (ap (refusedBy n phases-left) f ∙ sym (unmet (g .level) (levelGuard a (g .above) (g .place)) phases-left n k h))
+
+-- NO09 is the last
+module _ (b : Bool) (n : ℕ) (k s : Knowledge) where
+  pub alarms-met : b ≡ true → eqb n 9 ≡ true → s ≡ restricted (position alarms) someMask k → s ≡ refusedBy n (alarmGuards b) k
+  unfolding refusedBy
+  alarms-met h q e = simp (h, q) e
+
+  pub alarms-unmet : (t : Knowledge) → Unmet b n 9 → t ≡ passed (alarmGuards b) k → s ≡ dead t → s ≡ refusedBy n (alarmGuards b) k
+  unfolding refusedBy
+  alarms-unmet t h f e = e ∙ (ap dead f ∙ (sym (unmet b alarmGuard [] n k h) ∙ ap (λ (gs : List Guard). refusedBy n gs k) (append-nil (alarmGuards b))))

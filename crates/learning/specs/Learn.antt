@@ -6,11 +6,11 @@ use lib.Dec.{eqb}
 use Rattle.base.specs.Test.{pick}
 use Rattle.text.specs.declared.Digits.{Digits}
 use Rattle.text.specs.declared.Digits.the-variants as digitsRead
-use Rattle.command.specs.Commands.{Change, becomes, nextBatch}
+use Rattle.command.specs.Commands.{Change, becomes, nextBatch, resetAlarms}
 use Rattle.command.specs.Request.{Asked, refused, asked, Guard, guardsOf, levelGuard, replyOf, changesOf}
 use Rattle.knowledge.specs.declared.Knowledge.{Knowledge}
 use Rattle.knowledge.specs.Sets.{maskIn}
-use Rattle.knowledge.specs.Knowledge.{dead, passing, becoming, advanced}
+use Rattle.knowledge.specs.Knowledge.{dead, passing, becoming, advanced, alarmsLeft}
 use Rattle.showing.specs.Heard.{refusalIn}
 use Rattle.showing.specs.Shown.{shown}
 
@@ -37,6 +37,7 @@ refusedBy n (g ∷ gs) k = pick (eqb n (g .refusal)) (passing (g .field) (g .ref
 abbrev pub movedBy : Change → Knowledge → Knowledge
 movedBy (becomes f n) k = becoming f n k
 movedBy nextBatch k = advanced k
+movedBy resetAlarms k = alarmsLeft k
 
 unfoldable pub moved : List Change → Knowledge → Knowledge
 moved [] k = k

@@ -3,6 +3,7 @@ use command::Guards;
 use command::Phases;
 use command::Request;
 use command::Writing;
+use knowledge::ALARMS;
 use knowledge::ALL_LEVELS;
 use knowledge::ALL_PHASES;
 use knowledge::CHANGED;
@@ -11,6 +12,7 @@ use knowledge::IDLE;
 use knowledge::KEYPAD;
 use knowledge::Knowledge;
 use knowledge::LEVELS;
+use knowledge::NO_ALARM;
 use knowledge::OFF;
 use knowledge::ON;
 use knowledge::PHASE;
@@ -20,6 +22,7 @@ use knowledge::RECIPE;
 use knowledge::RESET;
 use knowledge::RUNNING;
 use knowledge::SET;
+use knowledge::SOME_ALARM;
 use knowledge::STOPPED;
 use knowledge::VALUES;
 use showing::alone;
@@ -32,7 +35,7 @@ ghost use mathlib.Core.List.{_++_};
 ghost use Prim.Native.Nat.{_≤_};
 ghost use Rattle.state.specs.Field.{phase};
 ghost use Rattle.knowledge.specs.Sets.{any};
-ghost use Rattle.command.specs.Request.{keypadGuards, levelGuards, phaseGuards, guardsAs, changesOf, writingAs, requestAs};
+ghost use Rattle.command.specs.Request.{keypadGuards, levelGuards, phaseGuards, alarmGuards, guardsAs, changesOf, writingAs, requestAs};
 ghost use Rattle.learning.specs.Learn.{letThrough, allowedLevels, passed, refusedBy, moved, afterRefusal, afterAcceptance, learnOf};
 
 // ---- the refusals that look at the record
@@ -95,37 +98,56 @@ fn pass_phase(k: Knowledge, phases: Phases) -> Knowledge
     k.restrict(PHASE, set)
 }
 
+fn pass_alarms(k: Knowledge, tested: bool) -> Knowledge
+    ensures { λ r. ⌜ r ≡ passed (alarmGuards tested) k ⌝ }
+{
+    if tested {
+        return k.restrict(ALARMS, NO_ALARM);
+    }
+    k
+}
+
 fn pass(k: Knowledge, access: u8, guards: Guards) -> Knowledge
     ensures { λ r. ⌜ r ≡ passed (guardsAs access guards) k ⌝ }
 {
     let phases = guards.phases;
     let off = pass_keypad(k, guards.keypad);
-    pass_phase(pass_level(off, access, guards), phases)
+    let open = pass_level(off, access, guards);
+    pass_alarms(pass_phase(open, phases), guards.alarms)
 }
 
-// The one that is numbered n is the first that applies: of NO05; of NO07 and NO05; of all.
-fn refused_by_phase(k: Knowledge, phases: Phases, n: u32) -> Knowledge
-    ensures { λ r. ⌜ r ≡ refusedBy n (phaseGuards phases) k ⌝ }
+// The one that is numbered n is the first that applies: of NO09; of NO05 and NO09; of NO07, NO05 and NO09; of all.
+fn refused_by_alarms(k: Knowledge, tested: bool, n: u32) -> Knowledge
+    ensures { λ r. ⌜ r ≡ refusedBy n (alarmGuards tested) k ⌝ }
+{
+    if tested && n == 9 {
+        return k.restrict(ALARMS, SOME_ALARM);
+    }
+    pass_alarms(k, tested).refuted()
+}
+
+fn refused_by_phase(k: Knowledge, phases: Phases, alarms: bool, n: u32) -> Knowledge
+    ensures { λ r. ⌜ r ≡ refusedBy n (phaseGuards phases ++ alarmGuards alarms) k ⌝ }
 {
     let set = needed(phases);
     if set == 0 {
-        return k.refuted();
+        return refused_by_alarms(k, alarms, n);
     }
     if n == 5 {
         return k.restrict(PHASE, ALL_PHASES - set);
     }
-    k.restrict(PHASE, set).refuted()
+    refused_by_alarms(k.restrict(PHASE, set), alarms, n)
 }
 
 fn refused_by_level(k: Knowledge, access: u8, guards: Guards, n: u32) -> Knowledge
-    ensures { λ r. ⌜ r ≡ refusedBy n (levelGuards access guards ++ phaseGuards (guards .phases)) k ⌝ }
+    ensures { λ r. ⌜ r ≡ refusedBy n (levelGuards access guards ++ (phaseGuards (guards .phases) ++ alarmGuards (guards .alarms))) k ⌝ }
 {
     if guards.level && n == 7 {
         let levels = allowed(access, guards.above);
         return k.restrict(LEVELS + offset(guards.place), ALL_LEVELS - levels);
     }
     let phases = guards.phases;
-    refused_by_phase(pass_level(k, access, guards), phases, n)
+    refused_by_phase(pass_level(k, access, guards), phases, guards.alarms, n)
 }
 
 fn refused_by(k: Knowledge, access: u8, guards: Guards, n: u32) -> Knowledge
@@ -163,6 +185,7 @@ fn move_on(k: Knowledge, request: Writing) -> Knowledge
         Writing::End => k.put(PHASE, IDLE),
         Writing::ClearReset => k.put(RESET, OFF),
         Writing::ClearChanged => k.put(CHANGED, OFF),
+        Writing::ResetAlarms => k.reset_alarms(),
     }
 }
 

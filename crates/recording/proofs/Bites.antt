@@ -1,10 +1,9 @@
 -- What the statement of demand 3 allows and what it excludes, on small recordings that a statement without one of its clauses judges
 -- otherwise. Where a record fits, it is named and the calls are computed; where none fits, the laws of every call tell it. Assumes nothing.
-use Prim.Native.Nat.{ℕ}
+use Prim.Native.Nat.{ℕ, _≤_}
 use mathlib.Core.Bool.{Bool, true, false, _||_}
 use mathlib.Core.Path.{_≡_, refl, sym, ap, subst, _∙_}
 use mathlib.Core.List.{List, [], _∷_, _++_}
-use mathlib.Core.Logic.{⊎-elim}
 use native.Mathlib.Omega.{arith}
 use lib.Dec.{ltb}
 use lib.ListN.{length, take, drop, getD, replicate}
@@ -27,7 +26,7 @@ use Rattle.command.specs.Bench.{bench}
 use Rattle.controller.specs.Call.{Outcome, callOf}
 use Rattle.controller.specs.Worked.{check, framed}
 use Rattle.controller.proofs.ReadBack.{AnswersAt, status-read}
-use Rattle.controller.proofs.Theorems.{Silenced, Answered, every-input, accepted-by-none, recipe-after-recipe}
+use Rattle.controller.proofs.Theorems.{Answered, is-reported, accepted-by-none, recipe-after-recipe}
 use Rattle.recording.specs.Form.{Exchange, Recording, J, exchangesIn, recordingOf}
 use Rattle.recording.specs.Replay.{Answer, fits, refuted, AllAgree, Right}
 use Rattle.recording.specs.Statement.{AgreesIn, Agrees, next, Start, Fits, Judgement, refused, judged, RightOf, Demand3}
@@ -80,19 +79,19 @@ some-fit = (
 -- ---- what an answered call tells of the recorded reply
 
 -- the frame that goes out is the one that was recorded
-heard-frame : (r : Record) (e : Exchange) (o f : List ℕ) (s : Record)
+pub heard-frame : (r : Record) (e : Exchange) (o f : List ℕ) (s : Record)
     → callOf Minicomputer r (e .request) o ≡ record { silence = 0; reported = length f; after = s; buffer = over f o } → AgreesIn r e o → f ≡ e .reply
 heard-frame r e o f s c h = sym (over-take f o (length f) refl) ∙ (sym (ap (λ (x : Outcome). take (x .reported) (x .buffer)) c) ∙ h .1)
 
--- EQ at address 1
+-- EQ at the record's address
+pub status-at : (r : Record) (a : ℕ) (o : List ℕ) → valid r ≡ true → get address r ≡ a → 64 ≤ length o
+    → AnswersAt Minicomputer r o a (text "EQ") (statusCharacters r)
+status-at r a o v i l = subst (λ (n : ℕ). AnswersAt Minicomputer r o n (text "EQ") (statusCharacters r)) i (status-read Minicomputer r o v l)
+
 status-heard : (r : Record) (a : List ℕ) → valid r ≡ true → get address r ≡ 1 → Agrees r (framed "01EQ" gets a)
     → frameOf Minicomputer (digits 2 1 ++ statusCharacters r) ≡ a
 unfolding frameOf xorFrom digits check
-status-heard r a v i h =
-    let o : List ℕ = replicate 64 0 in
-    let answers : AnswersAt Minicomputer r o 1 (text "EQ") (statusCharacters r) =
-    subst (λ (n : ℕ). AnswersAt Minicomputer r o n (text "EQ") (statusCharacters r)) i (status-read Minicomputer r o v (omega arith)) in
-    heard-frame r (framed "01EQ" gets a) o _ r answers (h o refl)
+status-heard r a v i h = let o : List ℕ = replicate 64 0 in heard-frame r (framed "01EQ" gets a) o _ r (status-at r 1 o v i (omega arith)) (h o refl)
 
 -- ---- recordings that no record fits
 
@@ -108,12 +107,12 @@ silence-refuted c h =
     let z = ap length e in
     omega arith
 
--- a reply of the right length whose third status character is not 0
-pub bytes-refuted : (c : ℕ) → Fits 1 c ((framed "01EQ" gets framed "01001000") ∷ []) → ⊥
+-- a reply of the right length whose fifth status character is not 0
+pub bytes-refuted : (c : ℕ) → Fits 1 c ((framed "01EQ" gets framed "01000010") ∷ []) → ⊥
 unfolding frameOf weightIn statusCharacters digits
 bytes-refuted c h =
     let (r, s, a) = h in
-    let z = ap (λ (f : List ℕ). getD f 5 0) (status-heard r (framed "01001000") (s .valid-record) (s .same-address) (a .0)) in
+    let z = ap (λ (f : List ℕ). getD f 7 0) (status-heard r (framed "01000010") (s .valid-record) (s .same-address) (a .0)) in
     omega arith
 
 -- a frame of no bytes that was answered
@@ -126,12 +125,10 @@ answer-refuted a c x xs h =
 
 -- a call that reports the length of OK is answered, and with OK: NO is of 10 bytes
 module _ (r : Record) (q o : List ℕ) (h : callOf Minicomputer r q o .reported ≡ 8) where
-  answered : Answered Minicomputer r q o
-  answered =
-      ⊎-elim (λ (s : Silenced Minicomputer r q o). let z = s .nothing in absurd (omega arith)) (λ (a : Answered Minicomputer r q o). a)
-      (every-input Minicomputer r q o)
+  pub answered : Answered Minicomputer r q o
+  answered = is-reported Minicomputer r q o (omega arith)
 
-  accepted-so : verdict (textIn Minicomputer q) r ≡ answer.accepted
+  pub accepted-so : verdict (textIn Minicomputer q) r ≡ answer.accepted
   unfolding replyText frameOf digits
   accepted-so = go (verdict (textIn Minicomputer q) r) refl (sym (answered .size) ∙ h)
     where
@@ -172,24 +169,25 @@ lost-refuted c h =
     omega arith
 
 -- ---- the one right answer
-abbrev pub Only : List Exchange → Answer → Type 0
-Only es x = Right (Fits 1 2) es x × ((y : Answer) → Right (Fits 1 2) es y → y ≡ x)
+module _ (a c : ℕ) (es : List Exchange) (x : Answer) where
+  abbrev pub Only : Type 0
+  Only = Right (Fits a c) es x × ((y : Answer) → Right (Fits a c) es y → y ≡ x)
 
-only : (es : List Exchange) (x : Answer) → Right (Fits 1 2) es x → Only es x
-only es x h = (h, λ y i. one-answer next Agrees (Start 1 2) es y x i h)
+  pub only : Right (Fits a c) es x → Only
+  only h = (h, λ y i. one-answer next Agrees (Start a c) es y x i h)
 
-pub kept-answer : Only recipe-kept (fits 3)
-kept-answer = only recipe-kept (fits 3) (refl, some-fit .0)
+pub kept-answer : Only 1 2 recipe-kept (fits 3)
+kept-answer = only 1 2 recipe-kept (fits 3) (refl, some-fit .0)
 
-pub lost-answer : Only recipe-lost (refuted 2 2)
-lost-answer = only recipe-lost (refuted 2 2) (refl, omega arith, omega arith, some-fit .1, lost-refuted 2)
+pub lost-answer : Only 1 2 recipe-lost (refuted 2 2)
+lost-answer = only 1 2 recipe-lost (refuted 2 2) (refl, omega arith, omega arith, some-fit .1, lost-refuted 2)
 
 nothing-fits : Fits 1 2 []
 nothing-fits = prefix next Agrees (Start 1 2) recipe-kept (some-fit .0) 0
 
 -- what comes after the first that does not agree changes nothing
-pub unanswered-answer : Only (unanswered ∷ unanswered ∷ []) (refuted 1 2)
-unanswered-answer = only (unanswered ∷ unanswered ∷ []) (refuted 1 2) (refl, omega arith, omega arith, nothing-fits, silence-refuted 2)
+pub unanswered-answer : Only 1 2 (unanswered ∷ unanswered ∷ []) (refuted 1 2)
+unanswered-answer = only 1 2 (unanswered ∷ unanswered ∷ []) (refuted 1 2) (refl, omega arith, omega arith, nothing-fits, silence-refuted 2)
 
 -- of a recording's bytes
 abbrev pub OnlyOf : List ℕ → Judgement → Type 0

@@ -2,3 +2,4 @@ pub mod Laws
 pub mod Consequences
 pub mod Exact
 pub mod Bites
+pub mod Alarms

@@ -1,7 +1,7 @@
 -- Laws of the reply's text: what is laid into a buffer, and what a text holds. Assumes nothing.
 use mathlib.Core.Path.{_≡_, refl, ap, sym, _∙_}
 use mathlib.Core.List.{List, [], _∷_, _++_, append-assoc}
-use mathlib.Core.Bool.{Bool, true, false, _&&_, _||_, or-false}
+use mathlib.Core.Bool.{Bool, true, false, not, _&&_, _||_, or-false}
 use Prim.Native.Nat.{ℕ, zero, suc, _+_, _*_, _/_, _%_, _≤_, _<_}
 use native.Mathlib.Nat.{add-zero, zero-add}
 use native.Mathlib.Omega.{arith}
@@ -15,14 +15,15 @@ use Rattle.base.proofs.Tests.{and-yes, and-left, and-right, between-yes}
 use Rattle.base.proofs.Lists.{over-at-start}
 use Rattle.state.specs.declared.Record.{Record}
 use Rattle.state.specs.Parameter.{codeAt}
-use Rattle.state.specs.Field.{Field, access, recipe, raw, number, value, level, get, flagNumber, phaseNumber}
+use Rattle.state.specs.Alarm.{noAlarm, characterValues}
+use Rattle.state.specs.Field.{Field, access, recipe, raw, number, alarms, value, level, get, flagNumber, phaseNumber}
 use Rattle.state.specs.Event.{running, stopped, done}
 use Rattle.state.specs.Event as event
 use Rattle.state.proofs.Fields.{flag-back}
 use Rattle.frame.specs.Frame.{allText}
 use Rattle.command.specs.declared.Answer.{Answer}
 use Rattle.command.specs.declared.Reading.{Reading}
-use Rattle.command.specs.Status.{passes, Bit, first, second, fourth, weightIn, statusCharacters, Code, statusCodes, codesOn}
+use Rattle.command.specs.Status.{passes, Bit, first, second, third, fourth, weightIn, statusCharacters, alarmCharacters, Code, statusCodes, codesOn}
 use Rattle.command.specs.Commands.{Arguments, numbered, acknowledged, composition, parameterLabel, factorPlace, printed, Command, commands, rowOf}
 use Rattle.command.specs.Answer.{Verdict, NO, accepted}
 use Rattle.command.specs.Request.{Asked, refused, asked, guardsOf, guarded, replyOf, Answered, no, shows, answerText, servedBy, servedOf, readingAs, answerAs}
@@ -43,12 +44,21 @@ abbrev pub characterOf : Bool → Bool → Bool → Bool → ℕ
 characterOf eight four two one = 0x30 + (8 * flagNumber eight + (4 * flagNumber four + (2 * flagNumber two + 1 * flagNumber one)))
 
 -- the six characters, from the signs that the code finds
-pub status-laid : (r : Record) (at n p a b d : ℕ) (o o₁ : List ℕ) → p ≡ phaseNumber (r .phase)
+pub status-laid : (r : Record) (at n p a b c d : ℕ) (o o₁ : List ℕ) → p ≡ phaseNumber (r .phase)
     → a ≡ characterOf (r .keypad) (eqb p running) (r .flow) (eqb p event.set || (eqb p running || eqb p stopped))
-    → b ≡ characterOf (eqb p running || eqb p stopped) (eqb p done) (r .reset) false → d ≡ characterOf (r .changed) false false (r .powerfail)
-    → Laid at (a ∷ b ∷ 0x30 ∷ d ∷ 0x30 ∷ 0x30 ∷ []) o n o₁ → Laid at (statusCharacters r) o n o₁
+    → b ≡ characterOf (eqb p running || eqb p stopped) (eqb p done) (r .reset) false → c ≡ characterOf false false false (not (eqb (r .alarms) noAlarm))
+    → d ≡ characterOf (r .changed) false false (r .powerfail)
+    → Laid at (a ∷ b ∷ c ∷ d ∷ 0x30 ∷ 0x30 ∷ []) o n o₁ → Laid at (statusCharacters r) o n o₁
 unfolding statusCharacters weightIn
-status-laid r at n p a b d o o₁ e f g h = laid-same at n _ _ o o₁ (simp (f, g, h, e, flag-back, or-false, add-zero, zero-add))
+status-laid r at n p a b c d o o₁ e f g i h = laid-same at n _ _ o o₁ (simp (f, g, i, h, e, flag-back, or-false, add-zero, zero-add))
+
+-- the five characters of the alarms
+pub alarms-laid : (m at n a b c d e : ℕ) (o o₁ : List ℕ) → a ≡ 0x30 + m / 32768 % 16 → b ≡ 0x30 + m / 2048 % 16 → c ≡ 0x30 + m / 128 % 16
+    → d ≡ 0x30 + m / 8 % 16 → e ≡ 0x30 + m % 8 % 16 → Laid at (a ∷ b ∷ c ∷ d ∷ e ∷ []) o n o₁ → Laid at (alarmCharacters m) o n o₁
+unfolding alarmCharacters characterValues
+alarms-laid m at n a b c d e o o₁ f g h i k =
+    let l : e ≡ 0x30 + m / 1 % 8 = omega arith in
+    laid-same at n _ _ o o₁ (simp (f, g, h, i, l))
 
 -- the phase p of the record is one of these
 pub in-one : (i p q : ℕ) → p ≡ q → member q (i ∷ []) ≡ eqb p i
@@ -203,23 +213,35 @@ text-status r =
     text-word _
     (character-text r first _ (omega arith)
     (character-text r second _ (omega arith)
-    (character-text r [] _ (omega arith)
+    (character-text r third _ (omega arith)
     (character-text r fourth _ (omega arith) (character-text r [] _ (omega arith) (character-text r [] _ (omega arith) no-text))))))
 
--- ---- an answer that has room in a frame: what is printed for it has 2 to 27 bytes
+text-alarms : (n : ℕ) → Text 5 5 (alarmCharacters n)
+unfolding alarmCharacters characterValues
+text-alarms n =
+    text-word _
+    (one-text _ _ (omega arith) (omega arith)
+    (one-text _ _ (omega arith) (omega arith)
+    (one-text _ _ (omega arith) (omega arith) (one-text _ _ (omega arith) (omega arith) (one-text _ _ (omega arith) (omega arith) no-text)))))
+
+-- ---- an answer that has room in a frame: what is printed for it has 2 bytes to as many as RS with all its codes
+
+abbrev pub longest : ℕ
+longest = 3 + 3 * length statusCodes
+
 abbrev pub Answers : Answered → Type 0
-Answers a = (r : Record) → Text 2 27 (answerText a r)
+Answers a = (r : Record) → Text 2 longest (answerText a r)
 
 -- a label and a number
-numbered-answers : (a b n : ℕ) (w : List ℕ) (f : Field) → 2 ≤ a + n → b + n ≤ 27 → Text a b w → Answers (shows (numbered w n f))
-numbered-answers a b n w f l h t r = text-wider _ _ 2 27 _ l h (text-joined a b n n w _ t (text-digits n (get f r)))
+numbered-answers : (a b n : ℕ) (w : List ℕ) (f : Field) → 2 ≤ a + n → b + n ≤ longest → Text a b w → Answers (shows (numbered w n f))
+numbered-answers a b n w f l h t r = text-wider _ _ 2 longest _ l h (text-joined a b n n w _ t (text-digits n (get f r)))
 
 parameter-text : (w : List ℕ) (i : ℕ) → allText w ≡ true → Text (length w + 4) (length w + 4) (parameterLabel w i)
 parameter-text w i h = text-joined _ _ _ _ w _ (text-word w h) (text-joined 3 3 1 1 (digits 3 (codeAt i)) _ (text-digits 3 (codeAt i)) space-text)
 
 ok-answers : (x : Arguments) → Answers (shows acknowledged)
 unfolding allBetween
-ok-answers x r = text-wider 2 2 2 27 _ (omega arith) (omega arith) (text-word (text "OK") refl)
+ok-answers x r = text-wider 2 2 2 longest _ (omega arith) (omega arith) (text-word (text "OK") refl)
 
 -- the replies of several rows, whatever the arguments
 infixr 40 _then_
@@ -227,19 +249,21 @@ data Rows : List Command → Type 0 where
   end : Rows []
   _then_ : {k : Command} {ks : List Command} → ((x : Arguments) → Answers (shows (k .reply x))) → Rows ks → Rows (k ∷ ks)
 
--- of 01's rows
+-- of 01's rows, and 02's
 rows : Rows commands
 unfolding allBetween
 rows =
-    (λ x r. text-wider 6 6 2 27 _ (omega arith) (omega arith) (text-status r))
-    then (λ x r. text-wider 3 27 2 27 _ (omega arith) (omega arith) (text-joined 3 3 0 24 (text "RS ") _ (text-word (text "RS ") refl) (text-codes statusCodes r refl)))
+    (λ x r. text-wider 6 6 2 longest _ (omega arith) (omega arith) (text-status r))
+    then (λ x r. text-wider 3 longest 2 longest _ (omega arith) (omega arith) (text-joined 3 3 0 _ (text "RS ") _ (text-word (text "RS ") refl) (text-codes statusCodes r refl)))
     then (λ x. numbered-answers 3 3 4 _ number (omega arith) (omega arith) (text-word (text "TN ") refl))
     then (λ x. numbered-answers 3 3 2 _ recipe (omega arith) (omega arith) (text-word (text "RR ") refl))
-    then (λ x r. text-wider 14 14 2 27 _ (omega arith) (omega arith) (text-joined 5 5 9 9 _ _ (text-labelled (text "RC ") 2 (get recipe r) refl) (text-labelled (space ∷ []) 8 _ refl)))
+    then (λ x r. text-wider 14 14 2 longest _ (omega arith) (omega arith) (text-joined 5 5 9 9 _ _ (text-labelled (text "RC ") 2 (get recipe r) refl) (text-labelled (space ∷ []) 8 _ refl)))
     then (λ x. numbered-answers 5 5 8 _ raw (omega arith) (omega arith) (text-word (text "RT R ") refl))
     then (λ x. numbered-answers 7 7 8 _ (value (x .place)) (omega arith) (omega arith) (parameter-text (text "PV ") (x .place) refl))
     then (λ x. numbered-answers 7 7 1 _ (level (x .place)) (omega arith) (omega arith) (parameter-text (text "XV ") (x .place) refl))
-    then ok-answers then ok-answers then ok-answers then ok-answers then ok-answers then ok-answers then ok-answers then ok-answers then end
+    then ok-answers then ok-answers then ok-answers then ok-answers then ok-answers then ok-answers then ok-answers then ok-answers
+    then (λ x r. text-wider 5 5 2 longest _ (omega arith) (omega arith) (text-alarms (get alarms r)))
+    then ok-answers then end
 
 row-answers : (c : ℕ) (ks : List Command) (x : Arguments) → Rows ks → Answers (shows (rowOf c ks .reply x))
 unfolding rowOf
@@ -265,6 +289,6 @@ served-answers (refused n) r = refusal-answers n
 served-answers (asked c x) r = by-verdict (guarded (guardsOf (get access r) (asked c x)) r) c x r
 
 -- a reply's text is legal in a frame: "4 to 60 bytes, each 0x20..0x7E"
-pub text-legal : (a : Answered) (r : Record) → Answers a → Text 4 29 (textFor a r)
+pub text-legal : (a : Answered) (r : Record) → Answers a → Text 4 (2 + longest) (textFor a r)
 unfolding textFor
-text-legal a r h = text-joined 2 2 2 27 (digits 2 (r .address)) (answerText a r) (text-digits 2 (r .address)) (h r)
+text-legal a r h = text-joined 2 2 2 longest (digits 2 (r .address)) (answerText a r) (text-digits 2 (r .address)) (h r)

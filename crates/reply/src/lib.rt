@@ -11,12 +11,12 @@ use text::put_digits;
 use text::put_word;
 ghost use mathlib.Core.Path.{_≡_};
 ghost use mathlib.Core.List.{[]};
-ghost use Prim.Native.Nat.{_+_, _*_, _≤_};
+ghost use Prim.Native.Nat.{_+_, _*_, _%_, _≤_};
 ghost use lib.ListN.{length};
 ghost use Rattle.base.specs.Test.{pick};
 ghost use Rattle.base.specs.Lists.{overAt};
 ghost use Rattle.state.specs.Field.{flagNumber};
-ghost use Rattle.command.specs.Status.{statusCharacters, statusCodes, codesOn};
+ghost use Rattle.command.specs.Status.{statusCharacters, alarmCharacters, statusCodes, codesOn};
 ghost use Rattle.command.specs.Commands.{factorPlace, printed};
 ghost use Rattle.command.specs.Request.{readingAs, replyOf, answerAs};
 ghost use Rattle.reply.specs.Reply.{labelled, labelledTwo, writtenOf};
@@ -78,8 +78,29 @@ fn put_status(r: Record, at: usize, out: &mut [u8]) -> usize
     let begun = (p == RUNNING) | (p == STOPPED);
     let first = character(r.keypad, p == RUNNING, r.flow, (p == SET) | begun);
     let second = character(begun, p == DONE, r.reset, false);
+    let third = character(false, false, false, r.alarms != 0);
     let fourth = character(r.changed, false, false, r.powerfail);
-    put_word(&[first, second, b'0', fourth, b'0', b'0'], at, out)
+    put_word(&[first, second, third, fourth, b'0', b'0'], at, out)
+}
+
+// A character of the lowest four alarms.
+fn alarm_character(alarms: u32) -> u8
+    ensures { λ n. ⌜ n ≡ 0x30 + alarms % 16 ⌝ }
+{
+    0x30 + (alarms % 16) as u8
+}
+
+// EA: five characters, four alarms in each but the last, which has three.
+fn put_alarms(alarms: u32, at: usize, out: &mut [u8]) -> usize
+    requires { ⌜ at + 5 ≤ length (now out) ⌝ }
+    ensures { λ n. ⌜ (n ≡ at + length (alarmCharacters alarms)) × (now (out .exit) ≡ overAt at (alarmCharacters alarms) (now (out .entry))) ⌝ }
+{
+    let first = alarm_character(alarms / 32768);
+    let second = alarm_character(alarms / 2048);
+    let third = alarm_character(alarms / 128);
+    let fourth = alarm_character(alarms / 8);
+    let fifth = alarm_character(alarms % 8);
+    put_word(&[first, second, third, fourth, fifth], at, out)
 }
 
 // A word if it is on.
@@ -96,12 +117,13 @@ fn put_if(on: bool, word: &[u8], at: usize, out: &mut [u8]) -> usize
 
 // RS: each status code that is on, and a space.
 fn put_codes(r: Record, at: usize, out: &mut [u8]) -> usize
-    requires { ⌜ at + 24 ≤ length (now out) ⌝ }
+    requires { ⌜ at + 27 ≤ length (now out) ⌝ }
     ensures { λ n. ⌜ (n ≡ at + length (codesOn statusCodes r)) × (now (out .exit) ≡ overAt at (codesOn statusCodes r) (now (out .entry))) ⌝ }
 {
     let phase = r.phase;
     let p = state::phase_number(phase);
-    let flow = put_if(r.flow, b"FL ", at, out);
+    let alarm = put_if(r.alarms != 0, b"AL ", at, out);
+    let flow = put_if(r.flow, b"FL ", alarm, out);
     let reset = put_if(r.reset, b"BD ", flow, out);
     let changed = put_if(r.changed, b"PC ", reset, out);
     let power = put_if(r.powerfail, b"PF ", changed, out);
@@ -123,7 +145,7 @@ fn factor_place(recipe: u8) -> usize
 
 // What a request is shown.
 fn put_shown(r: Record, reading: Reading, at: usize, out: &mut [u8]) -> usize
-    requires { ⌜ at + 27 ≤ length (now out) ⌝ }
+    requires { ⌜ at + 30 ≤ length (now out) ⌝ }
     ensures { λ n. ⌜ (n ≡ at + length (printed (replyOf (readingAs reading)) r)) × (now (out .exit) ≡ overAt at (printed (replyOf (readingAs reading)) r) (now (out .entry))) ⌝ }
 {
     match reading {
@@ -154,6 +176,7 @@ fn put_shown(r: Record, reading: Reading, at: usize, out: &mut [u8]) -> usize
             at,
             out,
         ),
+        Reading::Alarms => put_alarms(r.alarms, at, out),
     }
 }
 

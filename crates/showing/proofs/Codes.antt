@@ -14,19 +14,19 @@ use Rattle.base.specs.Text.{text}
 use Rattle.base.specs.Test.{pick}
 use Rattle.base.proofs.Tests.{and-left, and-right}
 use Rattle.state.specs.declared.Record.{Record}
-use Rattle.state.specs.Field.{position}
-use Rattle.command.specs.Status.{statusCodes, passes, Code, codesOn}
+use Rattle.state.specs.Field.{alarms, position}
+use Rattle.command.specs.Status.{phaseCodes, flagCodes, statusCodes, passes, Code, codesOn}
 use Rattle.text.specs.Word.{space, equal}
 use Rattle.text.proofs.Words.{equal-true, equal-same, word-length}
 use Rattle.knowledge.specs.declared.Knowledge.{Knowledge}
-use Rattle.knowledge.specs.Sets.{maskIn}
+use Rattle.knowledge.specs.Sets.{noneMask, someMask, maskIn}
 use Rattle.knowledge.specs.Knowledge.{dead, restricted}
 use Rattle.knowledge.proofs.Possible.{Kept}
 use Rattle.showing.specs.declared.Walk.{Walk}
 use Rattle.showing.specs.Heard.{startsWith}
 use Rattle.showing.specs.Shown.{wordShown, leftOf, codesShown, listShown, testShown, printedCode}
 use Rattle.text.proofs.Words.{word-within}
-use Rattle.showing.proofs.Fields.{Shows, word-shown, shown-as, both-shown, unless-shown, isSmall, test-shown}
+use Rattle.showing.proofs.Fields.{Shows, word-shown, shown-as, both-shown, unless-shown, isSmall, Tested, small-tested, alarm-tested, test-shown}
 
 -- ---- `show_code`
 module _ (s w : List ℕ) (p m n : ℕ) (x : Walk) (r : Knowledge) (b : Bool) (e : b ≡ startsWith w (drop (x .at) s)) (l : x .at ≤ length s) where
@@ -62,11 +62,12 @@ module _ (s : List ℕ) (k : Knowledge) (b : Bool) (e : b ≡ startsWith (text "
   unfolding listShown
   list-wrong r h z = z ∙ simp (← e, not-true b h)
 
-  module _ (h : not b ≡ false) (x y : Walk) (x′ : codesShown (drop 5 statusCodes) (leftOf s x) ≡ codesShown statusCodes (drop 3 s, k))
-      (y′ : codesShown [] (leftOf s y) ≡ codesShown (drop 5 statusCodes) (leftOf s x)) where
+  module _ (h : not b ≡ false) (u x y : Walk) (u′ : leftOf s u ≡ wordShown (text "AL ") (position alarms) someMask noneMask (drop 3 s, k))
+      (x′ : codesShown phaseCodes (leftOf s x) ≡ codesShown flagCodes (leftOf s u))
+      (y′ : codesShown [] (leftOf s y) ≡ codesShown phaseCodes (leftOf s x)) where
     list-form : codesShown [] (leftOf s y) ≡ listShown s k
-    unfolding listShown
-    list-form = y′ ∙ (x′ ∙ simp (← e, not-false b h))
+    unfolding listShown codesShown
+    list-form = y′ ∙ (x′ ∙ ap (codesShown flagCodes) u′ ∙ simp (← e, not-false b h))
 
     pub list-left : (r : Knowledge) → y .at ≤ length s → (y .at ≡ length s → ⊥) → r ≡ dead (y .known) → r ≡ listShown s k
     unfolding codesShown
@@ -107,24 +108,27 @@ abbrev others : List ℕ → List Code → Bool
 others w [] = true
 others w (c ∷ cs) = eqb (length (printedCode c)) (length w) && (not (equal (printedCode c) w) && others w cs)
 
--- each code is of a small field, and the later ones have other words
+-- each code's test is one that a set has a code for, and the later ones have other words
+abbrev Distinct : List Code → Type 0
+Distinct [] = Unit
+Distinct (c ∷ cs) = Tested (c .if) × ((others (printedCode c) cs ≡ true) × Distinct cs)
+
+-- those of small fields
 abbrev distinct : List Code → Bool
 distinct [] = true
 distinct (c ∷ cs) = isSmall (c .if .field) && (others (printedCode c) cs && distinct cs)
 
-codes-distinct : distinct statusCodes ≡ true
+small-distinct : (cs : List Code) → distinct cs ≡ true → Distinct cs
+small-distinct [] h = tt
+small-distinct (c ∷ cs) h =
+    let rest = and-right (isSmall (c .if .field)) _ h in (
+      small-tested (c .if) (and-left (isSmall (c .if .field)) _ h),
+      (and-left (others (printedCode c) cs) _ rest, small-distinct cs (and-right (others (printedCode c) cs) _ rest)),
+    )
+
+codes-distinct : Distinct statusCodes
 unfolding equal
-codes-distinct = refl
-
-module _ (d : Code) (cs : List Code) (h : distinct (d ∷ cs) ≡ true) where
-  first-small : isSmall (d .if .field) ≡ true
-  first-small = and-left (isSmall (d .if .field)) _ h
-
-  first-other : others (printedCode d) cs ≡ true
-  first-other = and-left (others (printedCode d) cs) _ (and-right (isSmall (d .if .field)) _ h)
-
-  rest-distinct : distinct cs ≡ true
-  rest-distinct = and-right (others (printedCode d) cs) _ (and-right (isSmall (d .if .field)) _ h)
+codes-distinct = (alarm-tested, (refl, small-distinct flagCodes refl))
 
 -- no list of other words starts with this one
 none-starts : (w : List ℕ) (cs : List Code) (r : Record) → 1 ≤ length w → others w cs ≡ true → startsWith w (codesOn cs r) ≡ false
@@ -148,20 +152,20 @@ next d xs = pick (startsWith (printedCode d) xs) (drop (length (printedCode d)) 
 abbrev after : Code → List ℕ → Knowledge → Knowledge
 after d xs k = testShown (startsWith (printedCode d) xs) (d .if) k
 
-codes-shown : {a c : ℕ} (cs : List Code) (xs : List ℕ) (k : Knowledge) → Kept a c k → distinct cs ≡ true
+codes-shown : {a c : ℕ} (cs : List Code) (xs : List ℕ) (k : Knowledge) → Kept a c k → Distinct cs
     → Shows a c k (codesShown cs (xs, k)) (λ r. codesOn cs r ≡ xs)
 unfolding codesShown wordShown codesOn
 codes-shown [] xs k kept h = word-shown [] xs k kept
 codes-shown (d ∷ cs) xs k kept h =
     let w : List ℕ = printedCode d in
     let s : Bool = startsWith w xs in
-    let t = test-shown s (d .if) k kept (first-small d cs h) in
+    let t = test-shown s (d .if) k kept (h .0) in
     shown-as k _ (λ r. (s ≡ passes (d .if) r) × (codesOn cs r ≡ next d xs)) (λ r. codesOn (d ∷ cs) r ≡ xs)
     (λ r v e. ap (λ (b : Bool). pick b w [] ++ codesOn cs r) (sym (e .0)) ∙ word-told w xs (codesOn cs r) s refl (e .1))
     (λ r v e.
-    word-left w xs (codesOn cs r) (passes (d .if) r) (none-starts w cs r (omega (arith, length-append (d .letters) (space ∷ []))) (first-other d cs h)) e)
+    word-left w xs (codesOn cs r) (passes (d .if) r) (none-starts w cs r (omega (arith, length-append (d .letters) (space ∷ []))) (h .1 .0)) e)
     (both-shown k _ _ (λ r. s ≡ passes (d .if) r) (λ r. codesOn cs r ≡ next d xs) t
-    (codes-shown cs (next d xs) (after d xs k) (t .kept) (rest-distinct d cs h)))
+    (codes-shown cs (next d xs) (after d xs k) (t .kept) (h .1 .1)))
 
 -- ---- RS
 pub list-shown : {a c : ℕ} (b : List ℕ) (k : Knowledge) → Kept a c k → Shows a c k (listShown b k) (λ r. text "RS " ++ codesOn statusCodes r ≡ b)

@@ -2,7 +2,7 @@
 -- nothing.
 use Prim.Native.Nat.{ℕ, _≤_, _<_, _^_}
 use mathlib.Core.Bool.{Bool, true, false, not, _&&_, false≢true}
-use mathlib.Core.Path.{_≡_, refl, sym, ap, _∙_}
+use mathlib.Core.Path.{_≡_, refl, sym, ap, subst, _∙_}
 use mathlib.Core.List.{List, _++_}
 use native.Mathlib.Omega.{arith}
 use lib.Dec.{eqb, ltb}
@@ -18,13 +18,14 @@ use Rattle.state.proofs.Kept.{field-in}
 use Rattle.text.specs.declared.Digits.{Digits}
 use Rattle.text.specs.declared.Digits.the-variants.{Number, Nothing}
 use Rattle.text.specs.Word.{digits, equal}
-use Rattle.command.specs.Status.{Test, passes}
+use Rattle.command.specs.Status.{Test, anyAlarm, passes}
 use Rattle.text.proofs.Words.{equal-true, equal-same}
 use Rattle.knowledge.specs.declared.Knowledge.{Knowledge}
-use Rattle.knowledge.specs.Sets.{Kind, several, single, kindOf}
-use Rattle.knowledge.specs.Knowledge.{dead, passing}
+use Rattle.knowledge.specs.Sets.{Kind, several, single, alarmed, kindOf, maskBy}
+use Rattle.knowledge.specs.Knowledge.{dead, restricted, passing}
 use Rattle.knowledge.proofs.Possible.{Possible, Kept}
-use Rattle.knowledge.proofs.Cut.{dead-none, dead-kept, passing-told, passing-left, passing-kept, holding-told, holding-left, holding-kept}
+use Rattle.knowledge.proofs.Codes.{Testable, small-testable, testable-not, alarm-testable}
+use Rattle.knowledge.proofs.Cut.{dead-none, dead-kept, passing-told, passing-left, passing-kept, holding-told, holding-left, holding-kept, settled-told, settled-left, settled-kept}
 use Rattle.showing.specs.Heard.{numberBehind}
 use Rattle.showing.specs.Shown.{testShown, numberBy, numberShown}
 use Rattle.showing.proofs.Reading.{behind-told, behind-left}
@@ -74,38 +75,51 @@ word-shown w b k kept =
 abbrev isSeveral : Kind → Bool
 isSeveral several = true
 isSeveral single = false
+isSeveral alarmed = false
 
 is-several : (kind : Kind) → isSeveral kind ≡ true → kind ≡ several
 is-several several h = refl
 is-several single h = absurd (false≢true h)
+is-several alarmed h = absurd (false≢true h)
 
 -- a field of the record that may hold one of several small numbers
 abbrev pub isSmall : Field → Bool
 isSmall f = ltb (position f) (position (value parameterCount)) && isSeveral (kindOf f)
 
-passing-shown : {a c : ℕ} (k : Knowledge) (f : Field) (p : ℕ → Bool) → Kept a c k → Held f → kindOf f ≡ several
-    → Shows a c k (passing f p k) (λ r. p (get f r) ≡ true)
-passing-shown k f p kept held kind =
+-- a test of a field of the record that the field's set has a code for
+pub record Tested (t : Test) : Type 0 where
+  pub held : Held (t .field)
+  pub coded : Testable (t .field) (t .holds)
+
+pub small-tested : (t : Test) → isSmall (t .field) ≡ true → Tested t
+small-tested t h =
     record {
-      kept = passing-kept k f p kept held kind;
-      told = λ r t. passing-told k r f p (kept .full) held kind t;
-      left = λ r t e. passing-left k r f p (kept .full) held kind t e;
+      held = ltb-true _ _ (and-left (ltb (position (t .field)) (position (value parameterCount))) _ h);
+      coded = small-testable (t .field) (t .holds) (is-several (kindOf (t .field)) (and-right (ltb (position (t .field)) (position (value parameterCount))) _ h));
     }
 
-pub test-shown : {a c : ℕ} (b : Bool) (t : Test) (k : Knowledge) → Kept a c k → isSmall (t .field) ≡ true
+pub alarm-tested : Tested anyAlarm
+alarm-tested = record { held = omega arith; coded = alarm-testable }
+
+passing-shown : {a c : ℕ} (k : Knowledge) (f : Field) (p : ℕ → Bool) → Kept a c k → Held f → Testable f p
+    → Shows a c k (passing f p k) (λ r. p (get f r) ≡ true)
+passing-shown k f p kept held coded =
+    record {
+      kept = passing-kept k f p kept held coded;
+      told = λ r t. passing-told k r f p (kept .full) held coded t;
+      left = λ r t e. passing-left k r f p (kept .full) held coded t e;
+    }
+
+pub test-shown : {a c : ℕ} (b : Bool) (t : Test) (k : Knowledge) → Kept a c k → Tested t
     → Shows a c k (testShown b t k) (λ r. b ≡ passes t r)
 test-shown {a} {c} b t k kept h = go b
   where
-    cut : (p : ℕ → Bool) → Shows a c k (passing (t .field) p k) (λ r. p (get (t .field) r) ≡ true)
-    cut p =
-        passing-shown k (t .field) p kept (ltb-true _ _ (and-left (ltb (position (t .field)) (position (value parameterCount))) _ h))
-        (is-several (kindOf (t .field)) (and-right (ltb (position (t .field)) (position (value parameterCount))) _ h))
-
     go : (d : Bool) → Shows a c k (testShown d t k) (λ r. d ≡ passes t r)
-    go true = shown-as k _ (λ r. passes t r ≡ true) (λ r. true ≡ passes t r) (λ r v e. sym e) (λ r v e. sym e) (cut (t .holds))
+    go true = shown-as k _ (λ r. passes t r ≡ true) (λ r. true ≡ passes t r) (λ r v e. sym e) (λ r v e. sym e)
+        (passing-shown k (t .field) (t .holds) kept (h .held) (h .coded))
     go false =
         shown-as k _ (λ r. not (passes t r) ≡ true) (λ r. false ≡ passes t r) (λ r v e. sym (not-true (passes t r) e)) (λ r v e. ap not (sym e))
-        (cut (λ n. not (t .holds n)))
+        (passing-shown k (t .field) (λ n. not (t .holds n)) kept (h .held) (testable-not (t .field) (t .holds) (h .coded)))
 
 -- ---- a number
 pub same-number : (m n : ℕ) → Number m ≡ Number n → n ≡ m
@@ -121,15 +135,24 @@ number-shown {a} {c} k f d kept held h = go d (kindOf f) refl
     go : (x : Digits) (kind : Kind) → kindOf f ≡ kind → Shows a c k (numberBy kind f x k) (λ r. x ≡ Number (get f r))
     go (Number n) several e =
         shown-as k _ (λ r. eqb (get f r) n ≡ true) (λ r. Number n ≡ Number (get f r)) (λ r v q. ap Number (sym (eqb-true (get f r) n q)))
-        (λ r v q. eq-eqb (get f r) n (same-number n (get f r) q)) (passing-shown k f (λ m. eqb m n) kept held e)
+        (λ r v q. eq-eqb (get f r) n (same-number n (get f r) q))
+        (subst (λ (kind : Kind). Shows a c k (restricted (position f) (maskBy kind f (λ m. eqb m n)) k) (λ r. eqb (get f r) n ≡ true)) e
+        (passing-shown k f (λ m. eqb m n) kept held (small-testable f (λ m. eqb m n) e)))
     go (Number n) single e =
         record {
           kept = holding-kept k f n kept held e h;
           told = λ r p. let t = holding-told k r f n (kept .full) held e p in (t .0, ap Number (sym (t .1)));
           left = λ r p q. holding-left k r f n (kept .full) held e p (same-number n (get f r) q);
         }
+    go (Number n) alarmed e =
+        record {
+          kept = settled-kept k f n kept held h;
+          told = λ r p. let t = settled-told k r f n (kept .full) held p in (t .0, ap Number (sym (t .1)));
+          left = λ r p q. settled-left k r f n (kept .full) held p (same-number n (get f r) q);
+        }
     go Nothing several e = unless-shown false k k (λ r. Nothing ≡ Number (get f r)) kept (λ q. absurd (false≢true q)) (λ r v q. absurd (no-number (get f r) q))
     go Nothing single e = unless-shown false k k (λ r. Nothing ≡ Number (get f r)) kept (λ q. absurd (false≢true q)) (λ r v q. absurd (no-number (get f r) q))
+    go Nothing alarmed e = unless-shown false k k (λ r. Nothing ≡ Number (get f r)) kept (λ q. absurd (false≢true q)) (λ r v q. absurd (no-number (get f r) q))
 
 -- a field of a valid record fits a width that its range fits
 pub field-fits : (r : Record) (f : Field) (n : ℕ) → valid r ≡ true → Held f → fieldRange f .high < 10 ^ n → get f r < 10 ^ n

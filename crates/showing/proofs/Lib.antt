@@ -4,5 +4,6 @@ pub mod Telling
 pub mod Fields
 pub mod Status
 pub mod Codes
+pub mod Alarms
 pub mod Composition
 pub mod Exact

@@ -11,17 +11,17 @@ use lib.Dec.{eqb}
 use lib.ListN.{length, getD, drop}
 use borrow.Author.Tests.{eq-eqb, ne-eqb, not-true, not-false, eqb-true}
 use Rattle.base.specs.Test.{pick}
-use Rattle.base.proofs.Tests.{by-test, and-right, allBelow, holds-below, and-yes, and-left}
+use Rattle.base.proofs.Tests.{by-test, same, same-as, and-right, allBelow, holds-below, and-yes, and-left}
 use Rattle.state.specs.declared.Record.{Record}
 use Rattle.state.specs.Field.{flagNumber}
 use Rattle.text.specs.Word.{equal}
-use Rattle.command.specs.Status.{Bit, first, second, fourth, characters, passes, weightIn, statusCharacters}
+use Rattle.command.specs.Status.{Bit, first, second, third, fourth, characters, passes, weightIn, statusCharacters}
 use Rattle.knowledge.specs.declared.Knowledge.{Knowledge}
 use Rattle.knowledge.specs.Knowledge.{dead, restricted}
 use Rattle.knowledge.proofs.Possible.{Kept}
 use Rattle.showing.specs.Heard.{lit, weightLit, charactersFormed}
 use Rattle.showing.specs.Shown.{bitsShown, charactersShown, statusShown, testShown}
-use Rattle.showing.proofs.Fields.{Shows, all-shown, shown-as, both-shown, unless-shown, isSmall, test-shown}
+use Rattle.showing.proofs.Fields.{Shows, all-shown, shown-as, both-shown, unless-shown, isSmall, Tested, small-tested, alarm-tested, test-shown}
 
 -- ---- `show_bit`
 module _ (p x w m n : ℕ) (k r : Knowledge) where
@@ -33,7 +33,7 @@ module _ (p x w m n : ℕ) (k r : Knowledge) where
 
 pub ruleset bits-read = (bit-set, bit-clear)
 
--- ---- `show_first`, `show_second`, `show_fourth`: one bit behind another
+-- ---- `show_first`, `show_second`, `show_third`, `show_fourth`: one bit behind another
 module _ (x : ℕ) (b : Bit) (bs : List Bit) (k l r : Knowledge) where
   pub bit-shown : l ≡ testShown (lit (b .weight) x) (b .if) k → r ≡ bitsShown x bs l → r ≡ bitsShown x (b ∷ bs) k
   unfolding bitsShown
@@ -48,25 +48,17 @@ pub ruleset bits-told = (bit-shown, none-shown)
 -- ---- `characters_formed`
 
 -- a character has the form of a list of bits exactly if its other bits are those of 0x30; computed over all bytes
-abbrev same : Bool → Bool → Bool
-same true b = b
-same false b = not b
-
-same-as : (a b : Bool) → same a b ≡ true → a ≡ b
-same-as true b e = sym e
-same-as false b e = sym (not-true b e)
-
 abbrev both : ℕ → List Bit → ℕ → Bool
 both m bs x = same (eqb (bitAnd x m) 0x30) (eqb x (0x30 + weightLit x bs))
 
 others : (m : ℕ) (bs : List Bit) → allBelow (both m bs) 256 ≡ true → (x : ℕ) → x < 256 → eqb (bitAnd x m) 0x30 ≡ eqb x (0x30 + weightLit x bs)
 others m bs h x l = same-as _ _ (holds-below (both m bs) 256 h x l)
 
-pub six-formed : (r : Bool) (a b c d e f : ℕ) → a < 256 → b < 256 → d < 256
-    → r ≡ equal (bitAnd a 0xf0 ∷ bitAnd b 0xf1 ∷ c ∷ bitAnd d 0xf6 ∷ e ∷ f ∷ []) (0x30 ∷ 0x30 ∷ 0x30 ∷ 0x30 ∷ 0x30 ∷ 0x30 ∷ [])
+pub six-formed : (r : Bool) (a b c d e f : ℕ) → a < 256 → b < 256 → c < 256 → d < 256
+    → r ≡ equal (bitAnd a 0xf0 ∷ bitAnd b 0xf1 ∷ bitAnd c 0xfe ∷ bitAnd d 0xf6 ∷ e ∷ f ∷ []) (0x30 ∷ 0x30 ∷ 0x30 ∷ 0x30 ∷ 0x30 ∷ 0x30 ∷ [])
     → r ≡ charactersFormed (a ∷ b ∷ c ∷ d ∷ e ∷ f ∷ []) characters
 unfolding equal charactersFormed weightLit
-six-formed r a b c d e f l m n h = h ∙ simp (others 0xf0 first refl a l, others 0xf1 second refl b m, others 0xf6 fourth refl d n)
+six-formed r a b c d e f l m o n h = h ∙ simp (others 0xf0 first refl a l, others 0xf1 second refl b m, others 0xfe third refl c o, others 0xf6 fourth refl d n)
 
 -- ---- `show_status`
 formed-length : (xs : List ℕ) (bss : List (List Bit)) → charactersFormed xs bss ≡ true → length xs ≡ length bss
@@ -102,12 +94,12 @@ module _ (s : List ℕ) (k r : Knowledge) where
         let u : dead k ≡ statusShown (firstSix s) k = simp (← f, not-true t h) in
         z ∙ (u ∙ ap (λ (b : List ℕ). statusShown b k) (six s l))
 
-    pub status-read : (a b : Knowledge) → not t ≡ false → a ≡ bitsShown (getD s 0 0) first k → b ≡ bitsShown (getD s 1 0) second a
-        → r ≡ bitsShown (getD s 3 0) fourth b → r ≡ statusShown s k
+    pub status-read : (a b c : Knowledge) → not t ≡ false → a ≡ bitsShown (getD s 0 0) first k → b ≡ bitsShown (getD s 1 0) second a
+        → c ≡ bitsShown (getD s 2 0) third b → r ≡ bitsShown (getD s 3 0) fourth c → r ≡ statusShown s k
     unfolding statusShown charactersShown bitsShown
-    status-read a b h x y z =
+    status-read a b c h x y w z =
         let u : charactersShown (firstSix s) characters k ≡ statusShown (firstSix s) k = simp (← f, not-false t h) in
-        z ∙ (ap (bitsShown (getD s 3 0) fourth) (y ∙ ap (bitsShown (getD s 1 0) second) x) ∙ (u ∙ ap (λ (b : List ℕ). statusShown b k) (six s l)))
+        z ∙ (ap (bitsShown (getD s 3 0) fourth) (w ∙ ap (bitsShown (getD s 2 0) third) (y ∙ ap (bitsShown (getD s 1 0) second) x)) ∙ (u ∙ ap (λ (b : List ℕ). statusShown b k) (six s l)))
 
 pub ruleset status-known = (status-length, status-wrong, status-read)
 
@@ -147,65 +139,76 @@ own-bits r p x (b ∷ bs) h =
     (own-bits r (λ y. p y && not (lit (b .weight) y)) x bs (and-left (eachChoice (λ y. p y && not (lit (b .weight) y)) x bs) _ h))
     (own-bits r (λ y. p y && lit (b .weight) y) (x + b .weight) bs (and-right (eachChoice (λ y. p y && not (lit (b .weight) y)) x bs) _ h))
 
--- ---- what the lists of bits are held to: small fields, and no choice of bits is read as another
+-- ---- what the lists of bits are held to: tests that sets have codes for, and no choice of bits is read as another
+abbrev AllTested : List Bit → Type 0
+AllTested [] = Unit
+AllTested (b ∷ bs) = Tested (b .if) × AllTested bs
+
 abbrev allSmall : List Bit → Bool
 allSmall [] = true
 allSmall (b ∷ bs) = isSmall (b .if .field) && allSmall bs
 
-abbrev sound : List (List Bit) → Bool
-sound [] = true
-sound (bs ∷ bss) = allSmall bs && (eachChoice (λ y. true) 0x30 bs && sound bss)
+all-small : (bs : List Bit) → allSmall bs ≡ true → AllTested bs
+all-small [] h = tt
+all-small (b ∷ bs) h = (small-tested (b .if) (and-left (isSmall (b .if .field)) _ h), all-small bs (and-right (isSmall (b .if .field)) _ h))
 
-characters-sound : sound characters ≡ true
-characters-sound = refl
+record Sound (bs : List Bit) : Type 0 where
+  tested : AllTested bs
+  choice : eachChoice (λ y. true) 0x30 bs ≡ true
 
-module _ (bs : List Bit) (bss : List (List Bit)) (h : sound (bs ∷ bss) ≡ true) where
-  first-small : allSmall bs ≡ true
-  first-small = and-left (allSmall bs) _ h
+abbrev AllSound : List (List Bit) → Type 0
+AllSound [] = Unit
+AllSound (bs ∷ bss) = Sound bs × AllSound bss
 
-  first-choice : eachChoice (λ y. true) 0x30 bs ≡ true
-  first-choice = and-left (eachChoice (λ y. true) 0x30 bs) _ (and-right (allSmall bs) _ h)
+small-sound : (bs : List Bit) → allSmall bs ≡ true → eachChoice (λ y. true) 0x30 bs ≡ true → Sound bs
+small-sound bs h e = record { tested = all-small bs h; choice = e }
 
-  rest-sound : sound bss ≡ true
-  rest-sound = and-right (eachChoice (λ y. true) 0x30 bs) _ (and-right (allSmall bs) _ h)
+characters-sound : AllSound characters
+characters-sound = (
+  small-sound first refl refl,
+  (
+    small-sound second refl refl,
+    (record { tested = (alarm-tested, tt); choice = refl }, (small-sound fourth refl refl, (small-sound [] refl refl, (small-sound [] refl refl, tt)))),
+  ),
+)
 
 -- ---- one character
-bits-shown : {a c : ℕ} (x : ℕ) (bs : List Bit) (k : Knowledge) → Kept a c k → allSmall bs ≡ true → Shows a c k (bitsShown x bs k) (λ r. Telling r x bs)
+bits-shown : {a c : ℕ} (x : ℕ) (bs : List Bit) (k : Knowledge) → Kept a c k → AllTested bs → Shows a c k (bitsShown x bs k) (λ r. Telling r x bs)
 unfolding bitsShown
 bits-shown x [] k kept h = all-shown k (λ r. Unit) kept (λ r. tt)
 bits-shown x (b ∷ bs) k kept h =
-    let t = test-shown (lit (b .weight) x) (b .if) k kept (and-left (isSmall (b .if .field)) _ h) in
+    let t = test-shown (lit (b .weight) x) (b .if) k kept (h .0) in
     both-shown k _ _ (λ r. lit (b .weight) x ≡ passes (b .if) r) (λ r. Telling r x bs) t
-    (bits-shown x bs (testShown (lit (b .weight) x) (b .if) k) (t .kept) (and-right (isSmall (b .if .field)) _ h))
+    (bits-shown x bs (testShown (lit (b .weight) x) (b .if) k) (t .kept) (h .1))
 
 -- ---- all characters
 abbrev charactersOf : Record → List (List Bit) → List ℕ
 charactersOf r bss = map (λ (bs : List Bit). 0x30 + weightIn r bs) bss
 
-characters-shown : {a c : ℕ} (xs : List ℕ) (bss : List (List Bit)) (k : Knowledge) → Kept a c k → sound bss ≡ true → charactersFormed xs bss ≡ true
+characters-shown : {a c : ℕ} (xs : List ℕ) (bss : List (List Bit)) (k : Knowledge) → Kept a c k → AllSound bss → charactersFormed xs bss ≡ true
     → Shows a c k (charactersShown xs bss k) (λ r. charactersOf r bss ≡ xs)
 unfolding charactersShown charactersFormed
 characters-shown [] [] k kept h f = all-shown k (λ r. [] ≡ []) kept (λ r. refl)
 characters-shown [] (bs ∷ bss) k kept h f = absurd (false≢true f)
 characters-shown (x ∷ xs) [] k kept h f = absurd (false≢true f)
 characters-shown (x ∷ xs) (bs ∷ bss) k kept h f =
-    let t = bits-shown x bs k kept (first-small bs bss h) in
+    let t = bits-shown x bs k kept (h .0 .tested) in
     shown-as k _ (λ r. Telling r x bs × (charactersOf r bss ≡ xs)) (λ r. charactersOf r (bs ∷ bss) ≡ x ∷ xs)
     (λ r v e.
     let q : 0x30 + weightIn r bs ≡ x = omega (arith, eqb-true x (0x30 + weightLit x bs) (and-left (eqb x (0x30 + weightLit x bs)) _ f), same-weight r x bs (e .0)) in
     ap (λ (y : ℕ). y ∷ charactersOf r bss) q ∙ ap (λ (ys : List ℕ). x ∷ ys) (e .1))
     (λ r v e.
-    (subst (λ (y : ℕ). Telling r y bs) (ap (λ (ys : List ℕ). getD ys 0 0) e) (own-bits r (λ y. true) 0x30 bs (first-choice bs bss h) .1), ap (drop 1) e))
+    (subst (λ (y : ℕ). Telling r y bs) (ap (λ (ys : List ℕ). getD ys 0 0) e) (own-bits r (λ y. true) 0x30 bs (h .0 .choice) .1), ap (drop 1) e))
     (both-shown k _ _ (λ r. Telling r x bs) (λ r. charactersOf r bss ≡ xs) t
-    (characters-shown xs bss (bitsShown x bs k) (t .kept) (rest-sound bs bss h) (and-right (eqb x (0x30 + weightLit x bs)) _ f)))
+    (characters-shown xs bss (bitsShown x bs k) (t .kept) (h .1) (and-right (eqb x (0x30 + weightLit x bs)) _ f)))
 
-own-formed : (r : Record) (bss : List (List Bit)) → sound bss ≡ true → charactersFormed (charactersOf r bss) bss ≡ true
+own-formed : (r : Record) (bss : List (List Bit)) → AllSound bss → charactersFormed (charactersOf r bss) bss ≡ true
 unfolding charactersFormed
 own-formed r [] h = refl
 own-formed r (bs ∷ bss) h =
     let x : ℕ = 0x30 + weightIn r bs in
-    let e = same-weight r x bs (own-bits r (λ y. true) 0x30 bs (first-choice bs bss h) .1) in
-    and-yes (eqb x (0x30 + weightLit x bs)) _ (eq-eqb _ _ (ap (λ (n : ℕ). 0x30 + n) (sym e))) (own-formed r bss (rest-sound bs bss h))
+    let e = same-weight r x bs (own-bits r (λ y. true) 0x30 bs (h .0 .choice) .1) in
+    and-yes (eqb x (0x30 + weightLit x bs)) _ (eq-eqb _ _ (ap (λ (n : ℕ). 0x30 + n) (sym e))) (own-formed r bss (h .1))
 
 -- ---- EQ
 pub status-shown : {a c : ℕ} (b : List ℕ) (k : Knowledge) → Kept a c k → Shows a c k (statusShown b k) (λ r. statusCharacters r ≡ b)

@@ -8,18 +8,18 @@ use Rattle.base.specs.Text.{text}
 use Rattle.base.specs.Test.{pick, unless}
 use Rattle.state.specs.declared.Range.{Range}
 use Rattle.state.specs.Parameter.{parameterCount}
-use Rattle.state.specs.Field.{Field, recipe, value, position, fieldRange}
+use Rattle.state.specs.Field.{Field, recipe, alarms, value, position, fieldRange}
 use Rattle.state.specs.Valid.{within}
 use Rattle.text.specs.declared.Digits.{Digits}
 use Rattle.text.specs.declared.Digits.the-variants as digitsRead
 use Rattle.text.specs.Word.{space, equal}
 use Rattle.command.specs.Status.{Test, Bit, characters, Code, statusCodes}
-use Rattle.command.specs.Commands.{factorPlace, Reply, acknowledged, status, codes, numbered, composition}
+use Rattle.command.specs.Commands.{factorPlace, Reply, acknowledged, status, codes, numbered, composition, systemAlarms}
 use Rattle.knowledge.specs.declared.Knowledge.{Knowledge}
-use Rattle.knowledge.specs.Sets.{Kind, several, single, kindOf, maskOf, maskIn}
-use Rattle.knowledge.specs.Knowledge.{dead, restricted, told}
+use Rattle.knowledge.specs.Sets.{Kind, several, single, alarmed, kindOf, maskOf, maskIn}
+use Rattle.knowledge.specs.Knowledge.{dead, restricted, told, settled}
 use Rattle.showing.specs.declared.Walk.{Walk}
-use Rattle.showing.specs.Heard.{startsWith, numberBehind, lit, charactersFormed}
+use Rattle.showing.specs.Heard.{startsWith, numberBehind, lit, charactersFormed, alarmsRead}
 
 -- how far a parameter's value stands behind that of the first, and its level likewise; all places beyond the last are one
 unfoldable pub offsetOf : ℕ → ℕ
@@ -40,9 +40,14 @@ abbrev pub toldBy : ℕ → Range → Digits → Knowledge → Knowledge
 toldBy p range (digitsRead.Number n) k = told p range n k
 toldBy p range digitsRead.Nothing k = dead k
 
+abbrev pub settledBy : Field → Digits → Knowledge → Knowledge
+settledBy f (digitsRead.Number n) k = settled f n k
+settledBy f digitsRead.Nothing k = dead k
+
 abbrev pub numberBy : Kind → Field → Digits → Knowledge → Knowledge
 numberBy several f d k = restrictedBy (position f) (fieldRange f) d k
 numberBy single f d k = toldBy (position f) (fieldRange f) d k
+numberBy alarmed f d k = settledBy f d k
 
 abbrev pub numberShown : Field → Digits → Knowledge → Knowledge
 numberShown f d k = numberBy (kindOf f) f d k
@@ -98,3 +103,4 @@ shown status b k = statusShown b k
 shown codes b k = listShown b k
 shown (numbered w n f) b k = numberShown f (numberBehind w n b) k
 shown composition b k = compositionShown (numberBehind (text "RC ") 2 (take 5 b)) (numberBehind (space ∷ []) 8 (drop 5 b)) k
+shown systemAlarms b k = numberShown alarms (alarmsRead b) k

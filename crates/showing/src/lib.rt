@@ -1,6 +1,9 @@
 // What the reply to an accepted request shows of the record.
+use base::all_between;
 use base::is_between;
+use base::wide;
 use command::Reading;
+use knowledge::ALARMS;
 use knowledge::ALL_PHASES;
 use knowledge::CHANGED;
 use knowledge::DONE;
@@ -9,6 +12,7 @@ use knowledge::KEYPAD;
 use knowledge::Knowledge;
 use knowledge::LAST_RECIPE;
 use knowledge::LEVELS;
+use knowledge::NO_ALARM;
 use knowledge::NUMBER;
 use knowledge::OFF;
 use knowledge::ON;
@@ -19,6 +23,7 @@ use knowledge::RECIPE;
 use knowledge::RESET;
 use knowledge::RUNNING;
 use knowledge::SET;
+use knowledge::SOME_ALARM;
 use knowledge::STOPPED;
 use knowledge::VALUES;
 use state::LEVEL_RANGE;
@@ -36,16 +41,16 @@ ghost use mathlib.Core.Bool.{_&&_};
 ghost use mathlib.Core.List.{[], _∷_};
 ghost use Prim.Native.Nat.{_*_, _≤_};
 ghost use lib.Dec.{eqb};
-ghost use lib.ListN.{length, drop};
+ghost use lib.ListN.{length};
 ghost use Rattle.base.specs.Text.{text};
 ghost use Rattle.base.specs.Test.{pick, between};
 ghost use Rattle.state.specs.Parameter.{parameterCount};
-ghost use Rattle.command.specs.Status.{first, second, fourth, characters, statusCodes};
-ghost use Rattle.command.specs.Commands.{parameterLabel, acknowledged, composition};
+ghost use Rattle.command.specs.Status.{first, second, third, fourth, characters, phaseCodes, flagCodes};
+ghost use Rattle.command.specs.Commands.{parameterLabel, acknowledged, composition, systemAlarms};
 ghost use Rattle.command.specs.Request.{readingAs, replyOf};
 ghost use Rattle.knowledge.specs.Sets.{maskOf};
 ghost use Rattle.knowledge.specs.Knowledge.{restricted};
-ghost use Rattle.showing.specs.Heard.{numberBehind, refusalIn, lit, charactersFormed};
+ghost use Rattle.showing.specs.Heard.{numberBehind, refusalIn, lit, charactersFormed, alarmsRead};
 ghost use Rattle.showing.specs.Shown.{offsetOf, toldBy, restrictedBy, bitsShown, statusShown, wordShown, leftOf, codesShown, listShown, shown};
 
 // Sets of phases, and what each leaves of all.
@@ -186,11 +191,11 @@ fn parameter_label(letter: u8, place: usize) -> [u8; 7]
 fn characters_formed(a: u8, b: u8, c: u8, d: u8, e: u8, f: u8) -> bool
     ensures { λ r. ⌜ r ≡ charactersFormed (a ∷ b ∷ c ∷ d ∷ e ∷ f ∷ []) characters ⌝ }
 {
-    let others = [a & 0xf0, b & 0xf1, c, d & 0xf6, e, f];
+    let others = [a & 0xf0, b & 0xf1, c & 0xfe, d & 0xf6, e, f];
     is_word(&others, b"000000")
 }
 
-// A field of few numbers is in one set or the other, as the bit of this weight is set or not.
+// A field is in one set or the other, as the bit of this weight is set or not.
 fn show_bit(k: Knowledge, at: usize, x: u8, weight: u8, with: u32, without: u32) -> Knowledge
     ensures { λ r. ⌜ r ≡ restricted at (pick (lit weight x) with without) k ⌝ }
 {
@@ -219,6 +224,13 @@ fn show_second(k: Knowledge, x: u8) -> Knowledge
     show_bit(done, RESET, x, 2, ON, OFF)
 }
 
+// A3 of EQ.
+fn show_third(k: Knowledge, x: u8) -> Knowledge
+    ensures { λ r. ⌜ r ≡ bitsShown x third k ⌝ }
+{
+    show_bit(k, ALARMS, x, 1, SOME_ALARM, NO_ALARM)
+}
+
 // A4 of EQ.
 fn show_fourth(k: Knowledge, x: u8) -> Knowledge
     ensures { λ r. ⌜ r ≡ bitsShown x fourth k ⌝ }
@@ -236,11 +248,12 @@ fn show_status(k: Knowledge, s: &[u8]) -> Knowledge
     }
     let a = s[0];
     let b = s[1];
+    let c = s[2];
     let d = s[3];
-    if !characters_formed(a, b, s[2], d, s[4], s[5]) {
+    if !characters_formed(a, b, c, d, s[4], s[5]) {
         return k.refuted();
     }
-    show_fourth(show_second(show_first(k, a), b), d)
+    show_fourth(show_third(show_second(show_first(k, a), b), c), d)
 }
 
 // How far the codes of RS are read, and what is known then.
@@ -273,7 +286,7 @@ fn show_code(walk: Walk, s: &[u8], word: &[u8], field: usize, with: u32, without
 // The codes of flags.
 fn show_flag_codes(walk: Walk, s: &[u8]) -> Walk
     requires { ⌜ walk .at ≤ length (now s) ⌝ }
-    ensures { λ w. ⌜ (codesShown (drop 5 statusCodes) (leftOf (now (s .entry)) w) ≡ codesShown statusCodes (leftOf (now (s .entry)) walk)) × (w .at ≤ length (now (s .entry))) ⌝ }
+    ensures { λ w. ⌜ (codesShown phaseCodes (leftOf (now (s .entry)) w) ≡ codesShown flagCodes (leftOf (now (s .entry)) walk)) × (w .at ≤ length (now (s .entry))) ⌝ }
 {
     let flow = show_code(walk, s, b"FL ", FLOW, ON, OFF);
     let reset = show_code(flow, s, b"BD ", RESET, ON, OFF);
@@ -285,7 +298,7 @@ fn show_flag_codes(walk: Walk, s: &[u8]) -> Walk
 // The codes of phases.
 fn show_phase_codes(walk: Walk, s: &[u8]) -> Walk
     requires { ⌜ walk .at ≤ length (now s) ⌝ }
-    ensures { λ w. ⌜ (codesShown [] (leftOf (now (s .entry)) w) ≡ codesShown (drop 5 statusCodes) (leftOf (now (s .entry)) walk)) × (w .at ≤ length (now (s .entry))) ⌝ }
+    ensures { λ w. ⌜ (codesShown [] (leftOf (now (s .entry)) w) ≡ codesShown phaseCodes (leftOf (now (s .entry)) walk)) × (w .at ≤ length (now (s .entry))) ⌝ }
 {
     let done = show_code(walk, s, b"TD ", PHASE, DONE, NOT_DONE);
     let begun = show_code(done, s, b"TP ", PHASE, RUNNING_OR_STOPPED, NEITHER);
@@ -300,12 +313,43 @@ fn show_codes(k: Knowledge, s: &[u8]) -> Knowledge
         return k.refuted();
     }
     let start = Walk { at: 3, known: k };
-    let end = show_phase_codes(show_flag_codes(start, s), s);
+    let alarm = show_code(start, s, b"AL ", ALARMS, SOME_ALARM, NO_ALARM);
+    let end = show_phase_codes(show_flag_codes(alarm, s), s);
     let known = end.known;
     if end.at != s.len() {
         return known.refuted();
     }
     known
+}
+
+// The alarms that five characters are.
+fn alarms_in(s: &[u8]) -> Digits
+    ensures { λ d. ⌜ d ≡ alarmsRead (now (s .entry)) ⌝ }
+{
+    if s.len() != 5 {
+        return Digits::Nothing;
+    }
+    if !all_between(0x30, 0x3f, s) {
+        return Digits::Nothing;
+    }
+    if 0x37 < s[4] {
+        return Digits::Nothing;
+    }
+    let first = wide(s[0]) % 16;
+    let second = first * 16 + wide(s[1]) % 16;
+    let third = second * 16 + wide(s[2]) % 16;
+    let fourth = third * 16 + wide(s[3]) % 16;
+    Digits::Number(fourth * 8 + wide(s[4]) % 8)
+}
+
+// EA
+fn show_alarms(k: Knowledge, s: &[u8]) -> Knowledge
+    ensures { λ r. ⌜ r ≡ shown systemAlarms (now (s .entry)) k ⌝ }
+{
+    let Digits::Number(n) = alarms_in(s) else {
+        return k.refuted();
+    };
+    k.tell_alarms(n)
 }
 
 // OK
@@ -344,5 +388,6 @@ pub fn show(k: Knowledge, reading: Reading, s: &[u8]) -> Knowledge
             let label = parameter_label(b'X', place);
             show_small(k, LEVELS + offset(place), LEVEL_RANGE, s, &label, 1)
         }
+        Reading::Alarms => show_alarms(k, s),
     }
 }

@@ -2,16 +2,18 @@
 use Prim.Native.Nat.{ℕ, _+_, _-_, _%_, _≤_, _<_}
 use mathlib.Core.Bool.{Bool, true, false, not, _||_}
 use mathlib.Core.Path.{_≡_, sym, ap, _∙_}
+use lib.Bits.{bitAnd, bitOr}
 use lib.Dec.{eqb}
 use borrow.Author.Tests.{eq-eqb, ne-eqb, le-leb, lt-leb, not-true, not-false}
 use Rattle.state.specs.declared.Phase.{Phase}
 use Rattle.state.specs.declared.Phase.the-variants.{Idle, Running}
 use Rattle.state.specs.declared.Event.{Event}
-use Rattle.state.specs.declared.Event.the-variants.{Pulses, KeypadOn, PowerBack}
+use Rattle.state.specs.declared.Event.the-variants.{Pulses, KeypadOn, PowerBack, AlarmOn, AlarmOff}
 use Rattle.state.specs.declared.Record.{Record}
-use Rattle.state.specs.Field.{phase, keypad, flow, reset, powerfail, preset, raw, number, put, fieldRange, phaseNumber, on, off}
+use Rattle.state.specs.Alarm.{isAlarm, weightOf, allAlarms, lasting}
+use Rattle.state.specs.Field.{phase, keypad, flow, reset, powerfail, preset, raw, number, alarms, put, fieldRange, phaseNumber, on, off}
 use Rattle.state.specs.Valid.{valid}
-use Rattle.state.specs.Event.{idle, set, running, stopped, done, pulses, powerBack, keypadOn, happened, after, nextNumber, batchSet}
+use Rattle.state.specs.Event.{idle, set, running, stopped, done, pulses, powerBack, keypadOn, alarmRaised, alarmCleared, happened, after, nextNumber, batchSet, alarmsReset}
 use Rattle.state.proofs.Validity.{valid-tell}
 
 module _ (r : Record) (b : Bool) (v : b ≡ valid r) where
@@ -66,6 +68,25 @@ module _ (r : Record) (b : Bool) (v : b ≡ valid r) where
       unfolding powerBack put
       power-stopped s t e = after-valid PowerBack s (e ∙ simp (at ∙ t))
 
+    -- ---- an alarm, by whether the number is one's
+    module _ (k : ℕ) (t : Bool) (known : t ≡ isAlarm k) where
+      pub no-alarm-raised : not t ≡ true → r ≡ after (AlarmOn k) r
+      unfolding alarmRaised
+      no-alarm-raised o = after-valid (AlarmOn k) r (simp (sym known ∙ not-true t o))
+
+      pub no-alarm-cleared : not t ≡ true → r ≡ after (AlarmOff k) r
+      unfolding alarmCleared
+      no-alarm-cleared o = after-valid (AlarmOff k) r (simp (sym known ∙ not-true t o))
+
+      module _ (w : ℕ) (weight : w ≡ weightOf k) (i : not t ≡ false) where
+        pub alarm-raised : (s : Record) → s ≡ put alarms (bitOr (r .alarms) w) r → s ≡ after (AlarmOn k) r
+        unfolding alarmRaised
+        alarm-raised s e = after-valid (AlarmOn k) s (e ∙ simp (weight, sym known ∙ not-false t i))
+
+        pub alarm-cleared : (s : Record) → s ≡ put alarms (bitAnd (r .alarms) (allAlarms - w)) r → s ≡ after (AlarmOff k) r
+        unfolding alarmCleared
+        alarm-cleared s e = after-valid (AlarmOff k) s (e ∙ simp (weight, sym known ∙ not-false t i))
+
 -- the raw total of a valid record leaves room for any count of pulses
 pub raw-limit : (r : Record) (b : Bool) → b ≡ valid r → not b ≡ false → r .raw ≤ fieldRange raw .high
 raw-limit r b v n = valid-tell r (sym v ∙ not-false b n) .scalars .raw-high
@@ -75,3 +96,7 @@ pub batch-set : (r s : Record) (k n : ℕ) → k ≡ nextNumber (r .number)
     → s ≡ put phase set (put reset on (put raw 0 (put preset n (put number k r)))) → s ≡ batchSet n r
 unfolding batchSet put
 batch-set r s k n c e = e ∙ ap (λ (m : ℕ). put phase set (put reset on (put raw 0 (put preset n (put number m r))))) c
+
+-- AR's record
+pub alarms-reset : (r s : Record) (n : ℕ) → n ≡ lasting (r .alarms) → s ≡ put alarms n r → s ≡ alarmsReset r
+alarms-reset r s n c e = e ∙ ap (λ (m : ℕ). put alarms m r) c

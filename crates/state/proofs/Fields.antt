@@ -13,7 +13,7 @@ use Rattle.state.specs.declared.Phase.the-variants.{Idle, Set, Running, 
 use Rattle.state.specs.declared.Record.{Record}
 use Rattle.base.specs.Test.{pick, between}
 use Rattle.state.specs.Parameter.{parameterCount}
-use Rattle.state.specs.Field.{Field, address, access, phase, keypad, flow, changed, reset, powerfail, recipe, preset, raw, number, value, level, get, put, putAt, is, position, fieldRange, scalarFields, scalarCount, phaseNumber, phaseOf, flagNumber, flagOf, off, on}
+use Rattle.state.specs.Field.{Field, address, access, phase, keypad, flow, changed, reset, powerfail, recipe, preset, raw, number, alarms, value, level, get, put, putAt, is, position, fieldRange, scalarFields, scalarCount, phaseNumber, phaseOf, flagNumber, flagOf, off, on}
 use Rattle.state.specs.Valid.{within}
 use Rattle.base.proofs.Tests.{by-test, and-no, and-left, and-right, between-high, holds-below}
 
@@ -59,6 +59,7 @@ decode-position recipe = refl
 decode-position preset = refl
 decode-position raw = refl
 decode-position number = refl
+decode-position alarms = refl
 decode-position (value i) =
     let p : ℕ = position (value i) in
     simp (le-ltb p scalarCount (omega arith), eq-eqb ((p - scalarCount) % 2) 0 (omega arith)) (ap value (omega arith))
@@ -139,6 +140,7 @@ withLists vs ls r =
       preset = r .preset;
       raw = r .raw;
       number = r .number;
+      alarms = r .alarms;
       values = vs;
       levels = ls;
     }

@@ -1,5 +1,5 @@
--- A record is valid exactly if each field lies in its own range; so a write within a field's range, a panel event and a phase change
--- keep it valid. Assumes nothing.
+-- A record is valid exactly if each field lies in its own range; so a write within a field's range, a panel event, a phase change
+-- and AR keep it valid. Assumes nothing.
 use Prim.Native.Nat.{ℕ, zero, suc, _+_, _%_, _≤_, _<_}
 use mathlib.Core.Bool.{Bool, true, false, _&&_, _||_}
 use mathlib.Core.Path.{_≡_, refl, sym, ap, _∙_}
@@ -9,15 +9,17 @@ use lib.Dec.{eqb, leb, ltb}
 use lib.ListN.{length, getD}
 use borrow.Author.Tests.{eqb-true, eqb-false, eq-eqb, ltb-true}
 use Rattle.state.specs.declared.Event.{Event}
-use Rattle.state.specs.declared.Event.the-variants.{Pulses, Still, KeypadOn, KeypadOff, PowerBack}
+use Rattle.state.specs.declared.Event.the-variants.{Pulses, Still, KeypadOn, KeypadOff, PowerBack, AlarmOn, AlarmOff}
 use Rattle.state.specs.declared.Record.{Record}
 use Rattle.base.specs.Test.{pick}
 use Rattle.state.specs.Parameter.{parameterCount}
-use Rattle.state.specs.Field.{Field, address, phase, keypad, flow, reset, powerfail, preset, raw, number, value, level, get, put, position, fieldRange, scalarFields, fieldsFor, parameterFields, on, off}
+use Rattle.state.specs.Alarm.{isAlarm, raised, cleared, lasting}
+use Rattle.state.specs.Field.{Field, address, phase, keypad, flow, reset, powerfail, preset, raw, number, alarms, value, level, get, put, position, fieldRange, scalarFields, fieldsFor, parameterFields, on, off}
 use Rattle.state.specs.Valid.{within, allIn, fullLength, valid}
-use Rattle.state.specs.Event.{set, running, stopped, done, idle, inPhase, pulses, finished, powerBack, keypadOn, happened, after, nextNumber, batchSet, started, halted, ended}
-use Rattle.base.proofs.Tests.{and-yes, and-left, and-right, between-yes}
+use Rattle.state.specs.Event.{set, running, stopped, done, idle, inPhase, pulses, finished, powerBack, keypadOn, alarmRaised, alarmCleared, happened, after, nextNumber, batchSet, started, halted, ended, alarmsReset}
+use Rattle.base.proofs.Tests.{by-test, and-yes, and-left, and-right, between-yes}
 use Rattle.state.proofs.Fields.{Held, by-fields, scalar-at, same-field, get-put-same, get-put-other, put-values-length, put-levels-length}
+use Rattle.state.proofs.Alarms.{raised-within, cleared-within, lasting-within}
 use Rattle.state.proofs.Validity.{all-at, all-from, pairIn, pairs-more, fields-split, valid-tell}
 
 -- ---- valid exactly if each field is in its range
@@ -88,8 +90,14 @@ module _ (r : Record) (v : valid r ≡ true) where
       (put-kept (pick (inPhase idle r) r (finished n r (put raw ((r .raw + n) % 100000000) r)))
       (chosen (inPhase idle r) r _ v (if-put (inPhase running r && leb (r .preset) (r .raw + n)) phase done (put raw ((r .raw + n) % 100000000) r) c refl)) flow on refl)
 
+  -- the alarms become others if the number is an alarm's
+  if-alarms : (k : ℕ) (change : ℕ → ℕ) → ((n : ℕ) → isAlarm k ≡ true → within (fieldRange alarms) n ≡ true → within (fieldRange alarms) (change n) ≡ true)
+      → valid (pick (isAlarm k) (put alarms (change (get alarms r)) r) r) ≡ true
+  if-alarms k change inside =
+      by-test (isAlarm k) (λ a. simp a (put-kept r v alarms (change (get alarms r)) (inside (get alarms r) a (field-in r v alarms (omega arith))))) (λ a. simp a v)
+
   happened-kept : (e : Event) → valid (happened e r) ≡ true
-  unfolding keypadOn powerBack
+  unfolding keypadOn powerBack alarmRaised alarmCleared
   happened-kept (Pulses n) = pulses-kept n
   happened-kept Still = put-kept r v flow off refl
   happened-kept KeypadOn = if-put (inPhase idle r || inPhase done r) keypad on r v refl
@@ -98,6 +106,8 @@ module _ (r : Record) (v : valid r ≡ true) where
       let s : Record = pick (inPhase running r) (put phase stopped r) r in
       let a : valid s ≡ true = if-put (inPhase running r) phase stopped r v refl in
       put-kept (put flow off s) (put-kept s a flow off refl) powerfail on refl
+  happened-kept (AlarmOn k) = if-alarms k (λ n. raised k n) (λ n a h. raised-within k n a h)
+  happened-kept (AlarmOff k) = if-alarms k (λ n. cleared k n) (λ n a h. cleared-within k n h)
 
   -- a valid record stays valid
   pub after-kept : (e : Event) → valid (after e r) ≡ true
@@ -124,6 +134,9 @@ module _ (r : Record) (v : valid r ≡ true) where
 
   pub ended-kept : valid (ended r) ≡ true
   ended-kept = put-kept r v phase idle refl
+
+  pub reset-kept : valid (alarmsReset r) ≡ true
+  reset-kept = put-kept r v alarms (lasting (get alarms r)) (lasting-within (get alarms r) (field-in r v alarms (omega arith)))
 
 -- a record that is not valid comes back unchanged
 pub after-unchanged : (e : Event) (r : Record) → valid r ≡ false → after e r ≡ r

@@ -1,4 +1,5 @@
 pub mod Parameters
+pub mod Alarms
 pub mod Validity
 pub mod Fields
 pub mod Events

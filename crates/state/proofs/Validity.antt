@@ -16,7 +16,7 @@ use Rattle.state.specs.declared.Record.{Record}
 use Rattle.state.specs.declared.Range.{Range}
 use Rattle.base.specs.Test.{between, allBetween}
 use Rattle.state.specs.Parameter.{recipes, parameterCount, rangeAt}
-use Rattle.state.specs.Field.{Field, address, access, phase, recipe, preset, raw, number, value, level, get, fieldRange, position, scalarFields, fieldsFor, parameterFields, phaseNumber, flagNumber, on}
+use Rattle.state.specs.Field.{Field, address, access, phase, recipe, preset, raw, number, alarms, value, level, get, fieldRange, position, scalarFields, fieldsFor, parameterFields, phaseNumber, flagNumber, on}
 use Rattle.state.specs.Valid.{within, allIn, fullLength, valid}
 use Rattle.base.proofs.Tests.{and-yes, and-left, and-right, between-high}
 use Rattle.state.proofs.Parameters.{range-repeats}
@@ -75,6 +75,7 @@ ends r =
     ∷ leb (r .raw) (fieldRange raw .high)
     ∷ leb (fieldRange number .low) (r .number)
     ∷ leb (r .number) (fieldRange number .high)
+    ∷ leb (r .alarms) (fieldRange alarms .high)
     ∷ []
 
 -- one test after the other, as the code has them

@@ -1,13 +1,14 @@
--- Document 01, "What the panel does", and the phase changes of SB, SA, SP and ET.
+-- Document 01, "What the panel does", with the alarms of 02, L1; the phase changes of SB, SA, SP and ET; and what AR leaves.
 use Prim.Native.Nat.{ℕ, _+_, _%_}
 use mathlib.Core.Bool.{Bool, _&&_, _||_}
 use lib.Dec.{eqb, leb, ltb}
 use Rattle.state.specs.declared.Phase.the-variants.{Idle, Set, Running, Stopped, Done}
 use Rattle.state.specs.declared.Event.{Event}
-use Rattle.state.specs.declared.Event.the-variants.{Pulses, Still, KeypadOn, KeypadOff, PowerBack}
+use Rattle.state.specs.declared.Event.the-variants.{Pulses, Still, KeypadOn, KeypadOff, PowerBack, AlarmOn, AlarmOff}
 use Rattle.state.specs.declared.Record.{Record}
 use Rattle.base.specs.Test.{pick}
-use Rattle.state.specs.Field.{phase, keypad, flow, reset, powerfail, preset, raw, number, phaseNumber, on, off, fieldRange, get, put}
+use Rattle.state.specs.Alarm.{isAlarm, raised, cleared, lasting}
+use Rattle.state.specs.Field.{phase, keypad, flow, reset, powerfail, preset, raw, number, alarms, phaseNumber, on, off, fieldRange, get, put}
 use Rattle.state.specs.Valid.{valid}
 
 -- the phases by number
@@ -51,12 +52,21 @@ powerBack r = put powerfail on (put flow off (pick (inPhase running r) (put phas
 unfoldable pub keypadOn : Record → Record
 keypadOn r = pick (inPhase idle r || inPhase done r) (put keypad on r) r
 
+-- "A panel event raises or clears one alarm"; "a panel event for an alarm outside 1..19 changes nothing"
+unfoldable pub alarmRaised : ℕ → Record → Record
+alarmRaised k r = pick (isAlarm k) (put alarms (raised k (get alarms r)) r) r
+
+unfoldable pub alarmCleared : ℕ → Record → Record
+alarmCleared k r = pick (isAlarm k) (put alarms (cleared k (get alarms r)) r) r
+
 abbrev pub happened : Event → Record → Record
 happened (Pulses n) r = pulses n r
 happened Still r = put flow off r
 happened KeypadOn r = keypadOn r
 happened KeypadOff r = put keypad off r
 happened PowerBack r = powerBack r
+happened (AlarmOn k) r = alarmRaised k r
+happened (AlarmOff k) r = alarmCleared k r
 
 -- "A record that is not valid comes back unchanged."
 unfoldable pub after : Event → Record → Record
@@ -81,3 +91,7 @@ halted r = put phase stopped r
 
 abbrev pub ended : Record → Record
 ended r = put phase idle r
+
+-- AR: the lasting alarms
+abbrev pub alarmsReset : Record → Record
+alarmsReset r = put alarms (lasting (get alarms r)) r

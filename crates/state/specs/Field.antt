@@ -1,4 +1,4 @@
--- Document 01, "The controller's record": the fields by name, each read and written as a number.
+-- Document 01, "The controller's record", and 02, L1: the fields by name, each read and written as a number.
 use Prim.Native.Nat.{ℕ, zero, suc, _+_, _-_, _*_, _/_, _%_}
 use mathlib.Core.Bool.{Bool, true, false, _&&_}
 use mathlib.Core.List.{List, [], _∷_, _++_}
@@ -10,10 +10,11 @@ use Rattle.state.specs.declared.Record.{Record}
 use Rattle.state.specs.declared.Range.{Range}
 use Rattle.base.specs.Test.{pick}
 use Rattle.state.specs.Parameter.{recipes, range, parameterCount, rangeAt}
+use Rattle.state.specs.Alarm.{noAlarm, allAlarms}
 
--- the rows of 01's table; `value i` and `level i` are those of the parameter at place i
+-- the rows of 01's table, and the alarms; `value i` and `level i` are those of the parameter at place i
 pub data Field : Type 0 where
-  address access phase keypad flow changed reset powerfail recipe preset raw number : Field
+  address access phase keypad flow changed reset powerfail recipe preset raw number alarms : Field
   value level : ℕ → Field
 
 -- ---- phases and flags as numbers
@@ -56,6 +57,7 @@ fieldRange recipe = range 1 recipes
 fieldRange preset = range 0 999999
 fieldRange raw = range 0 99999999
 fieldRange number = range 1 9999
+fieldRange alarms = range noAlarm allAlarms
 fieldRange (value i) = rangeAt i
 fieldRange (level i) = range 0 3
 
@@ -73,6 +75,7 @@ get recipe r = r .recipe
 get preset r = r .preset
 get raw r = r .raw
 get number r = r .number
+get alarms r = r .alarms
 get (value i) r = getD (r .values) i 0
 get (level i) r = getD (r .levels) i 0
 
@@ -80,7 +83,7 @@ get (level i) r = getD (r .levels) i 0
 
 -- all but the parameters'
 abbrev pub scalarFields : List Field
-scalarFields = address ∷ access ∷ phase ∷ keypad ∷ flow ∷ changed ∷ reset ∷ powerfail ∷ recipe ∷ preset ∷ raw ∷ number ∷ []
+scalarFields = address ∷ access ∷ phase ∷ keypad ∷ flow ∷ changed ∷ reset ∷ powerfail ∷ recipe ∷ preset ∷ raw ∷ number ∷ alarms ∷ []
 
 abbrev pub scalarCount : ℕ
 scalarCount = length scalarFields
@@ -99,6 +102,7 @@ position recipe = 8
 position preset = 9
 position raw = 10
 position number = 11
+position alarms = 12
 position (value i) = scalarCount + 2 * i
 position (level i) = scalarCount + 1 + 2 * i
 
@@ -134,6 +138,7 @@ put f n r =
       preset = pick (is f preset) n (r .preset);
       raw = pick (is f raw) n (r .raw);
       number = pick (is f number) n (r .number);
+      alarms = pick (is f alarms) n (r .alarms);
       values = putAt (position (value 0)) f n (r .values);
       levels = putAt (position (level 0)) f n (r .levels);
     }
@@ -160,6 +165,7 @@ recordFrom w =
       preset = w preset;
       raw = w raw;
       number = w number;
+      alarms = w alarms;
       values = listed (λ i. w (value i)) parameterCount;
       levels = listed (λ i. w (level i)) parameterCount;
     }

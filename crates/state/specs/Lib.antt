@@ -1,4 +1,5 @@
 pub mod Parameter
+pub mod Alarm
 pub mod Field
 pub mod Valid
 pub mod Event

@@ -1,11 +1,12 @@
-// The controller's record: its parameters, its validity, what the panel does to it and its phase changes.
+// The controller's record: its parameters, its alarms, its validity, what the panel does to it and its phase changes.
 ghost use mathlib.Core.Path.{_≡_};
 ghost use mathlib.Core.Bool.{_&&_};
-ghost use Prim.Native.Nat.{_%_};
+ghost use Prim.Native.Nat.{_%_, _≤_};
 ghost use Rattle.state.specs.Parameter.{codeAt, rangeAt, placeOf};
+ghost use Rattle.state.specs.Alarm.{alarmCount, allAlarms, isAlarm, weightOf, lasting};
 ghost use Rattle.state.specs.Field.{Field, get, put, phaseNumber, scalarFields};
 ghost use Rattle.state.specs.Valid.{within, allIn, valid};
-ghost use Rattle.state.specs.Event.{after, nextNumber, batchSet, started, halted, ended};
+ghost use Rattle.state.specs.Event.{after, nextNumber, batchSet, started, halted, ended, alarmsReset};
 
 // The number of recipes. Places, counts and lengths follow from it.
 pub const RECIPES: usize = 8;
@@ -62,6 +63,11 @@ const FIRST_NUMBER: u16 = NUMBER_RANGE.low as u16;
 
 const LAST_NUMBER: u16 = NUMBER_RANGE.high as u16;
 
+pub const ALARMS_RANGE: Range = Range {
+    low: 0,
+    high: 524287,
+};
+
 pub const LEVEL_RANGE: Range = Range { low: 0, high: 3 };
 
 const LOW_LEVEL: u8 = LEVEL_RANGE.low as u8;
@@ -86,6 +92,8 @@ pub struct Record {
     pub raw: u32,
     // The batch number.
     pub number: u16,
+    // The alarms that are on, a bit each, the first in the highest.
+    pub alarms: u32,
     // By place.
     pub values: [u32; PARAMETERS],
     pub levels: [u8; PARAMETERS],
@@ -98,6 +106,9 @@ pub enum Event {
     KeypadOn,
     KeypadOff,
     PowerBack,
+    // An alarm by its number, 1 to 19.
+    AlarmOn(u16),
+    AlarmOff(u16),
 }
 
 // ---- phases by number, in the order above
@@ -218,6 +229,35 @@ pub fn next_number(n: u16) -> u16
     FIRST_NUMBER
 }
 
+// ---- alarms
+
+// There are nineteen: document 000's A1 to A5, each from its 8 down, without the reserved bit.
+const ALARMS: u16 = 19;
+
+// Those that AR leaves: all but PA and U1 to U5.
+const LASTING_ALARMS: u32 = 0x7f867;
+
+// What AR leaves of the alarms that are on.
+pub fn lasting(alarms: u32) -> u32
+    ensures { λ n. ⌜ (n ≡ lasting alarms) × (n ≤ allAlarms) ⌝ }
+{
+    alarms & LASTING_ALARMS
+}
+
+fn is_alarm(number: u16) -> bool
+    ensures { λ b. ⌜ b ≡ isAlarm number ⌝ }
+{
+    (1 <= number) & (number <= ALARMS)
+}
+
+// The bit of an alarm.
+fn alarm_bit(number: u16) -> u32
+    requires { ⌜ (1 ≤ number) × (number ≤ alarmCount) ⌝ }
+    ensures { λ n. ⌜ (n ≡ weightOf number) × (n ≤ allAlarms) ⌝ }
+{
+    1 << (ALARMS - number)
+}
+
 // ---- the record
 impl Record {
     // The fields but the parameters' are in their ranges: the ends beyond which their types go.
@@ -237,6 +277,7 @@ impl Record {
             & (self.raw <= RAW_RANGE.high)
             & (NUMBER_RANGE.low <= number)
             & (number <= NUMBER_RANGE.high)
+            & (self.alarms <= ALARMS_RANGE.high)
     }
 
     // Each field lies in its own range.
@@ -397,6 +438,34 @@ impl Record {
         }
     }
 
+    // An alarm comes on; a number that is no alarm's changes nothing.
+    pub fn alarm_on(mut self, number: u16) -> Record
+        ensures { λ r. ⌜ r ≡ after (Event.AlarmOn number) self ⌝ }
+    {
+        if !self.valid() {
+            return self;
+        }
+        if !is_alarm(number) {
+            return self;
+        }
+        self.alarms = self.alarms | alarm_bit(number);
+        self
+    }
+
+    // The panel clears an alarm.
+    pub fn alarm_off(mut self, number: u16) -> Record
+        ensures { λ r. ⌜ r ≡ after (Event.AlarmOff number) self ⌝ }
+    {
+        if !self.valid() {
+            return self;
+        }
+        if !is_alarm(number) {
+            return self;
+        }
+        self.alarms = self.alarms & (ALARMS_RANGE.high - alarm_bit(number));
+        self
+    }
+
     // The record after any event of the panel.
     pub fn after(self, event: Event) -> Record
         ensures { λ r. ⌜ r ≡ after event self ⌝ }
@@ -407,6 +476,8 @@ impl Record {
             Event::KeypadOn => self.keypad_on(),
             Event::KeypadOff => self.keypad_off(),
             Event::PowerBack => self.power_back(),
+            Event::AlarmOn(number) => self.alarm_on(number),
+            Event::AlarmOff(number) => self.alarm_off(number),
         }
     }
 
@@ -442,5 +513,13 @@ impl Record {
         ensures { λ r. ⌜ r ≡ ended self ⌝ }
     {
         self.in_phase(Phase::Idle)
+    }
+
+    // AR: the lasting alarms stay.
+    pub fn reset_alarms(mut self) -> Record
+        ensures { λ r. ⌜ r ≡ alarmsReset self ⌝ }
+    {
+        self.alarms = lasting(self.alarms);
+        self
     }
 }

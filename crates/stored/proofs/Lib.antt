@@ -1,5 +1,7 @@
 pub mod Bytes
 pub mod Slots
+pub mod Versions
+pub mod Alarms
 pub mod LowRecord
 pub mod Taking
 pub mod Writing

@@ -1,6 +1,6 @@
--- A record and its stored numbers are inverse to each other, and the record is valid exactly if the numbers lie in their slots: over any
--- list of items that names each field once, and then for the list that is stored. Assumes nothing.
-use Prim.Native.Nat.{ℕ, zero, suc, _+_, _-_, _*_, _/_, _%_, _^_, _≤_, _<_}
+-- A record and its stored numbers are inverse to each other, and the record is valid exactly if the numbers fit their items: over any
+-- list of items that names each field once, and then for the lists that the versions store. Assumes nothing.
+use Prim.Native.Nat.{ℕ, suc, _+_, _*_, _/_, _%_, _^_, _≤_, _<_}
 use mathlib.Core.Bool.{Bool, true, false, not, _&&_, _||_, false≢true}
 use mathlib.Core.Path.{_≡_, refl, sym, ap, _∙_}
 use mathlib.Core.List.{List, [], _∷_, map}
@@ -8,31 +8,34 @@ use native.Mathlib.Nat.{pow-suc}
 use native.Mathlib.Omega.{arith}
 use lib.Dec.{eqb, ltb}
 use lib.ListN.{length}
-use borrow.Author.Tests.{eq-eqb, eqb-true, eqb-false, ltb-true, not-true}
+use borrow.Author.Tests.{eq-eqb, eqb-true, eqb-false, ltb-true, lt-ltb, not-true}
 use Rattle.base.proofs.Tests.{and-yes, and-left, and-right, between-yes, between-high, holds-below, by-test}
 use Rattle.state.specs.declared.Record.{Record}
 use Rattle.state.specs.Parameter.{parameterCount}
-use Rattle.state.specs.Field.{Field, value, position, get, put, fieldRange, off, on}
+use Rattle.state.specs.Field.{Field, alarms, value, position, get, put, fieldRange, off, on}
 use Rattle.state.specs.Valid.{within, valid}
 use Rattle.state.proofs.Fields.{Held, same-field, get-put-same, get-put-other}
 use Rattle.state.proofs.Kept.{field-in, put-kept}
 use Rattle.state.proofs.Validity.{valid-tell}
 use Rattle.state.proofs.Whole.{same-fields, from-valid, low-within}
-use Rattle.stored.specs.Layout.{Item, alone, together, current, items, itemWidth, itemSlot, slotsFrom, bits, itemNumber, numbersOf, putBits, putItem, putAll}
-use Rattle.stored.specs.Form.{inSlot, allIn, lowRecord}
+use Rattle.stored.specs.Layout.{Item, alone, together, bitMapped, current, items, alarmsStored, alarmsIn, fits, bits, itemNumber, numbersOf, putBits, putItem, putAll}
+use Rattle.stored.specs.Form.{allFit, lowRecord}
+use Rattle.stored.proofs.Versions.{Known, by-versions}
+use Rattle.stored.proofs.Alarms.{alarms-back, stored-fits, alarms-within, stored-back}
 
 -- ---- which fields items name
 
 -- a field by its position
-abbrev among : List Field → ℕ → Bool
+abbrev pub among : List Field → ℕ → Bool
 among [] p = false
 among (f ∷ fs) p = eqb (position f) p || among fs p
 
-abbrev names : Item → ℕ → Bool
+abbrev pub names : Item → ℕ → Bool
 names (alone w f) p = eqb (position f) p
 names (together fs) p = among fs p
+names bitMapped p = eqb (position alarms) p
 
-abbrev namesIn : List Item → ℕ → Bool
+abbrev pub namesIn : List Item → ℕ → Bool
 namesIn [] p = false
 namesIn (x ∷ xs) p = names x p || namesIn xs p
 
@@ -54,6 +57,7 @@ apart (f ∷ fs) xs = not (namesIn xs (position f)) && apart fs xs
 abbrev soundItem : Item → List Item → Bool
 soundItem (alone w f) xs = held f && not (namesIn xs (position f))
 soundItem (together fs) xs = flags fs && apart fs xs
+soundItem bitMapped xs = not (namesIn xs (position alarms))
 
 abbrev sound : List Item → Bool
 sound [] = true
@@ -104,6 +108,9 @@ first-tells f fs h =
       once = not-true _ (and-left (not (among fs (position f))) (flags fs) b);
       rest = and-right (not (among fs (position f))) (flags fs) b;
     }
+
+alarms-held : Held alarms
+alarms-held = omega arith
 
 -- ---- a number put into a field
 module _ (s : Record) (v : valid s ≡ true) (f : Field) (l : Held f) (n : ℕ) (w : within (fieldRange f) n ≡ true) where
@@ -181,10 +188,6 @@ bits-agree r v (f ∷ fs) s h w g a =
     (λ e. ap (λ (k : Field). get k r) e)
     (λ e. bits-agree r v fs s (t .rest) w g (λ o. a (simp (e, o)))))
 
-power-low : (n : ℕ) → 1 ≤ 2 ^ n
-power-low zero = omega arith
-power-low (suc n) = let h = power-low n in let p : 2 ^ suc n ≡ 2 ^ n * 2 = pow-suc 2 n in omega arith
-
 -- a flag among several that are apart from some items is named by none of them
 apart-tells : (fs : List Field) (xs : List Item) → apart fs xs ≡ true → (g : Field) → among fs (position g) ≡ true → namesIn xs (position g) ≡ false
 apart-tells [] xs h g m = absurd (false≢true m)
@@ -201,72 +204,69 @@ module _ (x : Item) (xs : List Item) (h : sound (x ∷ xs) ≡ true) where
   sound-rest : sound xs ≡ true
   sound-rest = and-right (soundItem x xs) (sound xs) h
 
--- a number within the item's slot keeps the record valid
-item-valid : (at : ℕ) (x : Item) (xs : List Item) (n : ℕ) (s : Record) → soundItem x xs ≡ true → inSlot (itemSlot at x) n ≡ true → valid s ≡ true → valid (putItem x n s) ≡ true
-item-valid at (alone w f) xs n s h i v = put-kept s v f n i
-item-valid at (together fs) xs n s h i v = bits-valid fs n s (and-left (flags fs) (apart fs xs) h) v
+-- a number that fits the item keeps the record valid
+item-valid : (x : Item) (xs : List Item) (n : ℕ) (s : Record) → soundItem x xs ≡ true → fits x n ≡ true → valid s ≡ true → valid (putItem x n s) ≡ true
+item-valid (alone w f) xs n s h i v = put-kept s v f n i
+item-valid (together fs) xs n s h i v = bits-valid fs n s (and-left (flags fs) (apart fs xs) h) v
+item-valid bitMapped xs n s h i v = put-kept s v alarms (alarmsIn n) (alarms-within n i)
 
-pub all-valid : (at : ℕ) (xs : List Item) (ns : List ℕ) (s : Record) → sound xs ≡ true → allIn (slotsFrom at xs) ns ≡ true → valid s ≡ true → valid (putAll xs ns s) ≡ true
-unfolding putAll allIn slotsFrom
-all-valid at [] ns s h i v = v
-all-valid at (x ∷ xs) [] s h i v = v
-all-valid at (x ∷ xs) (n ∷ ns) s h i v =
-    all-valid (at + itemWidth x) xs ns (putItem x n s) (sound-rest x xs h) (and-right (inSlot (itemSlot at x) n) (allIn (slotsFrom (at + itemWidth x) xs) ns) i)
-    (item-valid at x xs n s (sound-item x xs h) (and-left (inSlot (itemSlot at x) n) (allIn (slotsFrom (at + itemWidth x) xs) ns) i) v)
+pub all-valid : (xs : List Item) (ns : List ℕ) (s : Record) → sound xs ≡ true → allFit xs ns ≡ true → valid s ≡ true → valid (putAll xs ns s) ≡ true
+unfolding putAll allFit
+all-valid [] ns s h i v = v
+all-valid (x ∷ xs) [] s h i v = v
+all-valid (x ∷ xs) (n ∷ ns) s h i v =
+    all-valid xs ns (putItem x n s) (sound-rest x xs h) (and-right (fits x n) (allFit xs ns) i)
+    (item-valid x xs n s (sound-item x xs h) (and-left (fits x n) (allFit xs ns) i) v)
 
 -- what no item names stays
 item-other : (x : Item) (n : ℕ) (s : Record) (g : Field) → names x (position g) ≡ false → get g (putItem x n s) ≡ get g s
 item-other (alone w f) n s g h = get-put-other f g n s (eqb-false _ _ h)
 item-other (together fs) n s g h = bits-other fs n s g h
+item-other bitMapped n s g h = get-put-other alarms g (alarmsIn n) s (eqb-false _ _ h)
 
-all-other : (xs : List Item) (ns : List ℕ) (s : Record) (g : Field) → namesIn xs (position g) ≡ false → get g (putAll xs ns s) ≡ get g s
+pub all-other : (xs : List Item) (ns : List ℕ) (s : Record) (g : Field) → namesIn xs (position g) ≡ false → get g (putAll xs ns s) ≡ get g s
 unfolding putAll
 all-other [] ns s g h = refl
 all-other (x ∷ xs) [] s g h = refl
 all-other (x ∷ xs) (n ∷ ns) s g h =
     let d = neither (names x (position g)) (namesIn xs (position g)) h in all-other xs ns (putItem x n s) g (d .1) ∙ item-other x n s g (d .0)
 
--- ---- a record's numbers lie in their slots
-item-in : (at : ℕ) (x : Item) (xs : List Item) (r : Record) → soundItem x xs ≡ true → valid r ≡ true → inSlot (itemSlot at x) (itemNumber r x) ≡ true
-item-in at (alone w f) xs r h v = field-in r v f (held-is f (and-left (held f) (not (namesIn xs (position f))) h))
-item-in at (together fs) xs r h v =
-    let l = bits-high r v fs (and-left (flags fs) (apart fs xs) h) in between-yes 0 (2 ^ length fs - 1) (bits r fs) (omega arith) (omega arith)
+-- ---- a record's numbers fit
+item-in : (x : Item) (xs : List Item) (r : Record) → soundItem x xs ≡ true → valid r ≡ true → fits x (itemNumber r x) ≡ true
+item-in (alone w f) xs r h v = field-in r v f (held-is f (and-left (held f) (not (namesIn xs (position f))) h))
+item-in (together fs) xs r h v = lt-ltb (bits r fs) (2 ^ length fs) (bits-high r v fs (and-left (flags fs) (apart fs xs) h))
+item-in bitMapped xs r h v = stored-fits (get alarms r) (field-in r v alarms alarms-held)
 
-pub all-in : (at : ℕ) (xs : List Item) (r : Record) → sound xs ≡ true → valid r ≡ true → allIn (slotsFrom at xs) (numbersOf xs r) ≡ true
-unfolding allIn slotsFrom numbersOf
-all-in at [] r h v = refl
-all-in at (x ∷ xs) r h v =
-    and-yes (inSlot (itemSlot at x) (itemNumber r x)) (allIn (slotsFrom (at + itemWidth x) xs) (map (itemNumber r) xs)) (item-in at x xs r (sound-item x xs h) v)
-    (all-in (at + itemWidth x) xs r (sound-rest x xs h) v)
+pub all-in : (xs : List Item) (r : Record) → sound xs ≡ true → valid r ≡ true → allFit xs (numbersOf xs r) ≡ true
+unfolding allFit numbersOf
+all-in [] r h v = refl
+all-in (x ∷ xs) r h v =
+    and-yes (fits x (itemNumber r x)) (allFit xs (map (itemNumber r) xs)) (item-in x xs r (sound-item x xs h) v) (all-in xs r (sound-rest x xs h) v)
 
 -- ---- numbers that are put are read again
-item-back : (at : ℕ) (x : Item) (xs : List Item) (n : ℕ) (ns : List ℕ) (s : Record) → soundItem x xs ≡ true → inSlot (itemSlot at x) n ≡ true → valid s ≡ true
+item-back : (x : Item) (xs : List Item) (n : ℕ) (ns : List ℕ) (s : Record) → soundItem x xs ≡ true → fits x n ≡ true → valid s ≡ true
     → itemNumber (putAll xs ns (putItem x n s)) x ≡ n
-item-back at (alone w f) xs n ns s h i v =
+item-back (alone w f) xs n ns s h i v =
     all-other xs ns (put f n s) f (not-true _ (and-right (held f) (not (namesIn xs (position f))) h)) ∙
     own s v f (held-is f (and-left (held f) (not (namesIn xs (position f))) h)) n i
-item-back at (together fs) xs n ns s h i v =
-    let k = flags-told fs xs h in
-    let high : n ≤ 2 ^ length fs - 1 = between-high 0 (2 ^ length fs - 1) n i in
-    let p : 1 ≤ 2 ^ length fs = power-low (length fs) in
+item-back (together fs) xs n ns s h i v =
+    let k = and-left (flags fs) (apart fs xs) h in
     bits-same fs (putAll xs ns (putBits fs n s)) (putBits fs n s) (λ g m. all-other xs ns (putBits fs n s) g (apart-tells fs xs (and-right (flags fs) (apart fs xs) h) g m)) ∙
-    bits-back fs n s k v (omega arith)
-  where
-    flags-told : (gs : List Field) (ys : List Item) → flags gs && apart gs ys ≡ true → flags gs ≡ true
-    flags-told gs ys q = and-left (flags gs) (apart gs ys) q
+    bits-back fs n s k v (ltb-true n (2 ^ length fs) i)
+item-back bitMapped xs n ns s h i v =
+    ap alarmsStored (all-other xs ns (put alarms (alarmsIn n) s) alarms (not-true _ h) ∙ own s v alarms alarms-held (alarmsIn n) (alarms-within n i)) ∙ stored-back n i
 
-pub all-back : (at : ℕ) (xs : List Item) (ns : List ℕ) (s : Record) → sound xs ≡ true → length ns ≡ length xs → allIn (slotsFrom at xs) ns ≡ true → valid s ≡ true
+pub all-back : (xs : List Item) (ns : List ℕ) (s : Record) → sound xs ≡ true → length ns ≡ length xs → allFit xs ns ≡ true → valid s ≡ true
     → numbersOf xs (putAll xs ns s) ≡ ns
-unfolding putAll allIn slotsFrom numbersOf
-all-back at [] [] s h l i v = refl
-all-back at [] (n ∷ ns) s h l i v = absurd (omega arith)
-all-back at (x ∷ xs) [] s h l i v = absurd (omega arith)
-all-back at (x ∷ xs) (n ∷ ns) s h l i v =
-    let a = and-left (inSlot (itemSlot at x) n) (allIn (slotsFrom (at + itemWidth x) xs) ns) i in
-    let b = and-right (inSlot (itemSlot at x) n) (allIn (slotsFrom (at + itemWidth x) xs) ns) i in
-    ap (λ (m : ℕ). m ∷ map (itemNumber (putAll xs ns (putItem x n s))) xs) (item-back at x xs n ns s (sound-item x xs h) a v) ∙
-    ap (λ (ms : List ℕ). n ∷ ms)
-    (all-back (at + itemWidth x) xs ns (putItem x n s) (sound-rest x xs h) (omega arith) b (item-valid at x xs n s (sound-item x xs h) a v))
+unfolding putAll allFit numbersOf
+all-back [] [] s h l i v = refl
+all-back [] (n ∷ ns) s h l i v = absurd (omega arith)
+all-back (x ∷ xs) [] s h l i v = absurd (omega arith)
+all-back (x ∷ xs) (n ∷ ns) s h l i v =
+    let a = and-left (fits x n) (allFit xs ns) i in
+    let b = and-right (fits x n) (allFit xs ns) i in
+    ap (λ (m : ℕ). m ∷ map (itemNumber (putAll xs ns (putItem x n s))) xs) (item-back x xs n ns s (sound-item x xs h) a v) ∙
+    ap (λ (ms : List ℕ). n ∷ ms) (all-back xs ns (putItem x n s) (sound-rest x xs h) (omega arith) b (item-valid x xs n s (sound-item x xs h) a v))
 
 -- ---- a record's numbers, put into another, make it agree
 item-agrees : (r : Record) → valid r ≡ true → (x : Item) (xs : List Item) (s : Record) → soundItem x xs ≡ true → valid s ≡ true → (g : Field)
@@ -275,21 +275,25 @@ item-agrees r v (alone w f) xs s h u g a =
     let l = held-is f (and-left (held f) (not (namesIn xs (position f))) h) in
     agrees s u f l (get f r) (field-in r v f l) g (get g r) (λ e. ap (λ (k : Field). get k r) e) a
 item-agrees r v (together fs) xs s h u g a = bits-agree r v fs s (and-left (flags fs) (apart fs xs) h) u g a
+item-agrees r v bitMapped xs s h u g a =
+    let w = field-in r v alarms alarms-held in
+    ap (λ (n : ℕ). get g (put alarms n s)) (alarms-back (get alarms r) w) ∙
+    agrees s u alarms alarms-held (get alarms r) w g (get g r) (λ e. ap (λ (k : Field). get k r) e) a
 
-all-agrees : (r : Record) → valid r ≡ true → (at : ℕ) (xs : List Item) (s : Record) → sound xs ≡ true → valid s ≡ true → (g : Field)
+all-agrees : (r : Record) → valid r ≡ true → (xs : List Item) (s : Record) → sound xs ≡ true → valid s ≡ true → (g : Field)
     → (namesIn xs (position g) ≡ false → get g s ≡ get g r) → get g (putAll xs (numbersOf xs r) s) ≡ get g r
 unfolding putAll numbersOf
-all-agrees r v at [] s h u g a = a refl
-all-agrees r v at (x ∷ xs) s h u g a =
-    all-agrees r v at xs (putItem x (itemNumber r x) s) (sound-rest x xs h)
-    (item-valid at x xs (itemNumber r x) s (sound-item x xs h) (item-in at x xs r (sound-item x xs h) v) u) g
+all-agrees r v [] s h u g a = a refl
+all-agrees r v (x ∷ xs) s h u g a =
+    all-agrees r v xs (putItem x (itemNumber r x) s) (sound-rest x xs h)
+    (item-valid x xs (itemNumber r x) s (sound-item x xs h) (item-in x xs r (sound-item x xs h) v) u) g
     (λ o. item-agrees r v x xs s (sound-item x xs h) u g (λ e. a (simp (e, o))))
 
 -- ---- what is stored
-items-sound : sound (items current) ≡ true
-items-sound = refl
+items-sound : (v : ℕ) → Known v → sound (items v) ≡ true
+items-sound v k = by-versions (λ (w : ℕ). sound (items w)) refl v k
 
--- every field of a record is
+-- every field of a record is, in the version that is written
 items-name-all : (g : Field) → Held g → namesIn (items current) (position g) ≡ true
 items-name-all g h = holds-below (namesIn (items current)) (position (value parameterCount)) refl (position g) h
 
@@ -298,19 +302,19 @@ pub low-valid : valid lowRecord ≡ true
 unfolding lowRecord
 low-valid = from-valid (λ (f : Field). fieldRange f .low) low-within
 
-module _ (at : ℕ) (r : Record) (v : valid r ≡ true) where
-  pub numbers-in : allIn (slotsFrom at (items current)) (numbersOf (items current) r) ≡ true
-  numbers-in = all-in at (items current) r items-sound v
+module _ (r : Record) (v : valid r ≡ true) where
+  pub numbers-in : allFit (items current) (numbersOf (items current) r) ≡ true
+  numbers-in = all-in (items current) r (items-sound current refl) v
 
   pub record-of-numbers : putAll (items current) (numbersOf (items current) r) lowRecord ≡ r
   record-of-numbers =
       same-fields (putAll (items current) (numbersOf (items current) r) lowRecord) r
-      (all-valid at (items current) (numbersOf (items current) r) lowRecord items-sound numbers-in low-valid) v
-      (λ g h. all-agrees r v at (items current) lowRecord items-sound low-valid g (λ o. absurd (false≢true (sym o ∙ items-name-all g h))))
+      (all-valid (items current) (numbersOf (items current) r) lowRecord (items-sound current refl) numbers-in low-valid) v
+      (λ g h. all-agrees r v (items current) lowRecord (items-sound current refl) low-valid g (λ o. absurd (false≢true (sym o ∙ items-name-all g h))))
 
-module _ (at : ℕ) (ns : List ℕ) (inside : allIn (slotsFrom at (items current)) ns ≡ true) where
-  pub numbers-valid : valid (putAll (items current) ns lowRecord) ≡ true
-  numbers-valid = all-valid at (items current) ns lowRecord items-sound inside low-valid
+module _ (v : ℕ) (known : Known v) (ns : List ℕ) (inside : allFit (items v) ns ≡ true) where
+  pub numbers-valid : valid (putAll (items v) ns lowRecord) ≡ true
+  numbers-valid = all-valid (items v) ns lowRecord (items-sound v known) inside low-valid
 
-  pub numbers-of-record : length ns ≡ length (items current) → numbersOf (items current) (putAll (items current) ns lowRecord) ≡ ns
-  numbers-of-record l = all-back at (items current) ns lowRecord items-sound l inside low-valid
+  pub numbers-of-record : length ns ≡ length (items v) → numbersOf (items v) (putAll (items v) ns lowRecord) ≡ ns
+  numbers-of-record l = all-back (items v) ns lowRecord (items-sound v known) l inside low-valid

@@ -1,58 +1,67 @@
--- Reading gives back what was written, and writing what was read. Assumes nothing.
-use Prim.Native.Nat.{ℕ, suc, _+_, _-_, _^_, _≤_, _<_}
+-- Reading gives back what was written, and writing what was read, by laws over the version; bytes of version 1 are read as the same bytes
+-- with no alarm. Assumes nothing.
+use Prim.Native.Nat.{ℕ, zero, suc, _+_, _^_, _≤_, _<_}
 use mathlib.Core.Bool.{Bool, true, false, _&&_}
 use mathlib.Core.Path.{_≡_, refl, sym, ap, _∙_}
-use mathlib.Core.List.{List, [], _∷_, _++_, append-assoc}
+use mathlib.Core.List.{List, [], _∷_, _++_, map, append-assoc}
 use mathlib.Core.Logic.{⊎-elim}
 use native.Mathlib.Omega.{arith}
 use lib.Dec.{eqb, leb, ltb}
 use lib.ListN.{length, getD, take, drop, length-append, length-take, length-drop, take-append-drop, drop-of-length-le, List·getD-eq-default}
-use lib.Seq.{getD-take, getD-drop, drop-cons, drop-drop, take-at, drop-at, length-take-le}
-use borrow.Author.Tests.{eq-eqb, eqb-true, le-leb, leb-true, ltb-true}
-use Rattle.base.specs.Test.{unless}
+use lib.Seq.{getD-take, getD-drop, drop-cons, drop-drop, take-nil, take-take, take-at, drop-at, length-take-le}
+use borrow.Author.Tests.{eq-eqb, ne-eqb, eqb-true, le-leb, leb-true, ltb-true}
+use Rattle.base.specs.Test.{unless, member}
 use Rattle.base.specs.Lists.{over}
-use Rattle.base.proofs.Tests.{below-or-not, and-left, and-right, between-high}
+use Rattle.base.proofs.Tests.{by-test, below-or-not, and-left, and-right, between-high}
 use Rattle.state.specs.declared.Record.{Record}
-use Rattle.state.specs.Parameter.{rangeAt}
+use Rattle.state.specs.Parameter.{parameterCount, rangeAt}
+use Rattle.state.specs.Alarm.{noAlarm}
+use Rattle.state.specs.Field.{Field, alarms, position, get, recordFrom}
 use Rattle.state.specs.Valid.{valid}
 use Rattle.stored.specs.declared.Slot.{Slot}
-use Rattle.stored.specs.Layout.{Item, current, items, headerWidth, itemWidth, totalWidth, itemSlot, slotsFrom, numbersOf, putAll}
-use Rattle.stored.specs.Form.{Outcome, K, done, bigEndian, numberOf, pack, packed, numberAt, numbersIn, inSlot, allIn, storedLength, headerBytes, storedForm, writeOf, headerOf, lowRecord, takenFrom, bodyOf, afterHeader, readOf}
+use Rattle.stored.specs.Layout.{Item, bitMapped, scalarItems, parameterItems, versions, current, items, headerWidth, itemWidth, totalWidth, parametersAt, itemSlot, slotsFrom, fits, numbersOf, putAll}
+use Rattle.stored.specs.Form.{Outcome, K, done, bigEndian, numberFrom, numberOf, pack, packed, numberAt, numbersIn, allFit, storedLength, versionOf, headerBytes, storedForm, writeOf, headerOf, lowRecord, takenFrom, bodyOf, afterHeader, readOf}
 use Rattle.base.proofs.Lists.{over-take}
 use Rattle.stored.proofs.Bytes.{Bytes, big-length, number-big, big-number}
-use Rattle.stored.proofs.Slots.{slot-width}
-use Rattle.stored.proofs.Taking.{refused-done}
+use Rattle.stored.proofs.Slots.{slot-width, sharedSlots}
+use Rattle.stored.proofs.Versions.{Known, version-length, none-found, length-version, length-items}
+use Rattle.stored.proofs.Alarms.{zero-fits}
+use Rattle.stored.proofs.Taking.{version, alarmsSlot, no-alarm-put, fit-inside, refused-done, taken-fitting, taken-done, taken-refused}
 use Rattle.stored.proofs.Writing.{numbers-length}
-use Rattle.stored.proofs.Records.{low-valid, numbers-in, record-of-numbers, numbers-valid, numbers-of-record}
--- the stored form is 177 bytes long
-pub use Rattle.stored.proofs.Slots.{stored-177}
+use Rattle.stored.proofs.Records.{namesIn, all-other, low-valid, numbers-in, record-of-numbers, numbers-valid, numbers-of-record}
+-- the stored form is 180 bytes long, and that of version 1 was 177
+pub use Rattle.stored.proofs.Slots.{stored-177, stored-180}
 -- and so is that of every record
 pub use Rattle.stored.proofs.Writing.{form-length}
 
 -- ---- numbers and bytes are inverse, over any items
 
--- every number of the slot fits its bytes
-abbrev allFit : List Slot → Bool
-allFit [] = true
-allFit (s ∷ ss) = ltb (s .high) (256 ^ s .width) && allFit ss
+-- every number of the slot has room in its bytes
+abbrev roomy : List Slot → Bool
+roomy [] = true
+roomy (s ∷ ss) = ltb (s .high) (256 ^ s .width) && roomy ss
 
--- the number in a slot behind some bytes
-number-there : (before rest : List ℕ) (x : Item) (n : ℕ) → inSlot (itemSlot (length before) x) n ≡ true → itemSlot (length before) x .high < 256 ^ itemSlot (length before) x .width
+-- the number in an item's slot
+number-at : (at : ℕ) (x : Item) (bs : List ℕ) → numberAt bs (itemSlot at x) ≡ numberOf (take (itemWidth x) (drop at bs))
+number-at at x bs =
+    let e = slot-width at x in
+    ap (λ (k : ℕ). numberOf (take (itemSlot at x .width) (drop k bs))) (e .1) ∙ ap (λ (k : ℕ). numberOf (take k (drop at bs))) (e .0)
+
+-- behind some bytes
+number-there : (before rest : List ℕ) (x : Item) (n : ℕ) → fits x n ≡ true → itemSlot (length before) x .high < 256 ^ itemSlot (length before) x .width
     → numberAt (before ++ (bigEndian (itemWidth x) n ++ rest)) (itemSlot (length before) x) ≡ n
 number-there before rest x n i fit =
     let s : Slot = itemSlot (length before) x in
-    let e = slot-width (length before) x in
-    let high : n ≤ s .high = between-high (s .low) (s .high) n i in
+    let high : n ≤ s .high = between-high (s .low) (s .high) n (fit-inside (length before) x n i) in
     let f : List ℕ = bigEndian (itemWidth x) n in
-    let w : 256 ^ s .width ≡ 256 ^ itemWidth x = ap (λ (k : ℕ). 256 ^ k) (e .0) in
-    ap (λ (k : ℕ). numberOf (take (s .width) (drop k (before ++ (f ++ rest))))) (e .1) ∙
-    (ap (λ (k : ℕ). numberOf (take k (drop (length before) (before ++ (f ++ rest))))) (e .0) ∙
+    let w : 256 ^ s .width ≡ 256 ^ itemWidth x = ap (λ (k : ℕ). 256 ^ k) (slot-width (length before) x .0) in
+    number-at (length before) x (before ++ (f ++ rest)) ∙
     (ap (λ (l : List ℕ). numberOf (take (itemWidth x) l)) (drop-at before (f ++ rest) (length before) refl) ∙
-    (ap numberOf (take-at f rest (itemWidth x) (big-length (itemWidth x) n)) ∙ number-big (itemWidth x) n (omega arith))))
+    (ap numberOf (take-at f rest (itemWidth x) (big-length (itemWidth x) n)) ∙ number-big (itemWidth x) n (omega arith)))
 
-numbers-back : (before : List ℕ) (xs : List Item) (ns : List ℕ) → length ns ≡ length xs → allFit (slotsFrom (length before) xs) ≡ true → allIn (slotsFrom (length before) xs) ns ≡ true
+numbers-back : (before : List ℕ) (xs : List Item) (ns : List ℕ) → length ns ≡ length xs → roomy (slotsFrom (length before) xs) ≡ true → allFit xs ns ≡ true
     → numbersIn (slotsFrom (length before) xs) (before ++ pack xs ns) ≡ ns
-unfolding slotsFrom numbersIn allIn pack
+unfolding slotsFrom numbersIn allFit pack
 numbers-back before [] [] l f i = refl
 numbers-back before [] (n ∷ ns) l f i = absurd (omega arith)
 numbers-back before (x ∷ xs) [] l f i = absurd (omega arith)
@@ -63,10 +72,10 @@ numbers-back before (x ∷ xs) (n ∷ ns) l f i =
     let long : length (before ++ b) ≡ length before + itemWidth x = length-append before b ∙ ap (λ (k : ℕ). length before + k) (big-length (itemWidth x) n) in
     let again : numbersIn ss ((before ++ b) ++ pack xs ns) ≡ ns =
     ap (λ (k : ℕ). numbersIn (slotsFrom k xs) ((before ++ b) ++ pack xs ns)) (sym long) ∙
-    numbers-back (before ++ b) xs ns (omega arith) (ap (λ (k : ℕ). allFit (slotsFrom k xs)) long ∙ and-right (ltb (s .high) (256 ^ s .width)) (allFit ss) f)
-    (ap (λ (k : ℕ). allIn (slotsFrom k xs) ns) long ∙ and-right (inSlot s n) (allIn ss ns) i) in
+    numbers-back (before ++ b) xs ns (omega arith) (ap (λ (k : ℕ). roomy (slotsFrom k xs)) long ∙ and-right (ltb (s .high) (256 ^ s .width)) (roomy ss) f)
+    (and-right (fits x n) (allFit xs ns) i) in
     ap (λ (m : ℕ). m ∷ numbersIn ss (before ++ (b ++ pack xs ns)))
-    (number-there before (pack xs ns) x n (and-left (inSlot s n) (allIn ss ns) i) (ltb-true _ _ (and-left (ltb (s .high) (256 ^ s .width)) (allFit ss) f))) ∙
+    (number-there before (pack xs ns) x n (and-left (fits x n) (allFit xs ns) i) (ltb-true _ _ (and-left (ltb (s .high) (256 ^ s .width)) (roomy ss) f))) ∙
     (ap (λ (l : List ℕ). n ∷ numbersIn ss l) (sym (append-assoc before b (pack xs ns))) ∙ ap (λ (ms : List ℕ). n ∷ ms) again)
 
 bytes-drop : (n : ℕ) (bs : List ℕ) → Bytes bs → Bytes (drop n bs)
@@ -85,11 +94,8 @@ unfolding slotsFrom numbersIn pack
 bytes-back at [] bs l h = sym (drop-of-length-le bs (let e : length bs ≤ at = omega arith in e))
 bytes-back at (x ∷ xs) bs l h =
     let w : ℕ = itemWidth x in
-    let e = slot-width at x in
     let d = length-drop at bs in
-    let n : numberAt bs (itemSlot at x) ≡ numberOf (take w (drop at bs)) =
-    ap (λ (k : ℕ). numberOf (take (itemSlot at x .width) (drop k bs))) (e .1) ∙ ap (λ (k : ℕ). numberOf (take k (drop at bs))) (e .0) in
-    ap (λ (m : ℕ). bigEndian w m ++ pack xs (numbersIn (slotsFrom (at + w) xs) bs)) n ∙
+    ap (λ (m : ℕ). bigEndian w m ++ pack xs (numbersIn (slotsFrom (at + w) xs) bs)) (number-at at x bs) ∙
     (ap (λ (t : List ℕ). t ++ pack xs (numbersIn (slotsFrom (at + w) xs) bs))
     (big-number w (take w (drop at bs)) (length-take-le w (drop at bs) (omega arith)) (bytes-take w (drop at bs) (bytes-drop at bs h))) ∙
     (ap (λ (t : List ℕ). take w (drop at bs) ++ t) (bytes-back (at + w) xs bs (omega arith) h ∙ sym (drop-drop w at bs)) ∙ take-append-drop w (drop at bs)))
@@ -118,72 +124,125 @@ write-tells r o b e =
     go true false f = absurd (refused-done 6 o b f)
     go false q f = absurd (refused-done 5 o b f)
 
--- what reading tells when it is done: the bytes are whole
-pub record Whole (bs : List ℕ) (r : Record) : Type 0 where
-  pub long : length bs ≡ storedLength current
-  pub version : getD bs 0 0 ≡ current
-  pub field : numberOf (take 2 (drop 1 bs)) ≡ storedLength current
-  pub inside : allIn (slotsFrom headerWidth (items current)) (numbersIn (slotsFrom headerWidth (items current)) bs) ≡ true
-  pub is : r ≡ putAll (items current) (numbersIn (slotsFrom headerWidth (items current)) bs) lowRecord
+-- what a good header tells
+record Headed (bs : List ℕ) : Type 0 where
+  known : Known (version bs)
+  first : getD bs 0 0 ≡ version bs
+  field : numberOf (take 2 (drop 1 bs)) ≡ length bs
 
-pub read-tells : (bs : List ℕ) (r : Record) → readOf bs ≡ (done, r) → Whole bs r
-unfolding readOf headerOf bodyOf takenFrom
-read-tells bs r e =
-    let ss : List Slot = slotsFrom headerWidth (items current) in
-    let a = after (headerOf bs) e in
-    let t = tests (eqb (length bs) (storedLength current)) (eqb (getD bs 0 0) current) (eqb (numberOf (take 2 (drop 1 bs))) (storedLength current)) (a .0) in
-    let b = body (allIn ss (numbersIn ss bs)) (a .1) in
-    record { long = eqb-true _ _ (t .0); version = eqb-true _ _ (t .1 .0); field = eqb-true _ _ (t .1 .1); inside = b .0; is = b .1 }
+header-tells : (bs : List ℕ) → headerOf bs ≡ done → Headed bs
+unfolding headerOf
+header-tells bs e =
+    let t = tests (member (version bs) versions) (eqb (getD bs 0 0) (version bs)) (eqb (numberOf (take 2 (drop 1 bs))) (length bs)) e in
+    record { known = t .0; first = eqb-true _ _ (t .1 .0); field = eqb-true _ _ (t .1 .1) }
   where
-    after : (h : Outcome) → afterHeader h bs ≡ (done, r) → (h ≡ done) × (bodyOf bs ≡ (done, r))
-    after (K k) f = absurd (refused-done k lowRecord r f)
-    after done f = (refl, f)
-
     tests : (p q s : Bool) → unless p (K 1) (unless q (K 2) (unless s (K 3) done)) ≡ done → (p ≡ true) × ((q ≡ true) × (s ≡ true))
     tests true true true f = (refl, (refl, refl))
     tests true true false f = let z : _≡_ {A = ℕ} 0 1 = cc in absurd (omega arith)
     tests true false s f = let z : _≡_ {A = ℕ} 0 1 = cc in absurd (omega arith)
     tests false q s f = let z : _≡_ {A = ℕ} 0 1 = cc in absurd (omega arith)
 
-    body : (p : Bool)
-        → unless {A = Outcome × Record} p (K 4, lowRecord) (done, putAll (items current) (numbersIn (slotsFrom headerWidth (items current)) bs) lowRecord) ≡ (done, r)
-        → (p ≡ true) × (r ≡ putAll (items current) (numbersIn (slotsFrom headerWidth (items current)) bs) lowRecord)
+headed-done : (bs : List ℕ) → Headed bs → headerOf bs ≡ done
+unfolding headerOf
+headed-done bs h = simp (h .known, eq-eqb _ _ (h .first), eq-eqb _ _ (h .field))
+
+-- the numbers that bytes have for the items of a version
+abbrev numbersAs : ℕ → List ℕ → List ℕ
+numbersAs v bs = numbersIn (slotsFrom headerWidth (items v)) bs
+
+-- what reading tells when it is done: the bytes are whole, in the version that their length has
+pub record Whole (bs : List ℕ) (r : Record) : Type 0 where
+  pub known : Known (version bs)
+  pub long : length bs ≡ storedLength (version bs)
+  pub first : getD bs 0 0 ≡ version bs
+  pub field : numberOf (take 2 (drop 1 bs)) ≡ length bs
+  pub inside : allFit (items (version bs)) (numbersAs (version bs) bs) ≡ true
+  pub is : r ≡ putAll (items (version bs)) (numbersAs (version bs) bs) lowRecord
+
+headed-whole : (bs : List ℕ) (r : Record) → Headed bs → allFit (items (version bs)) (numbersAs (version bs) bs) ≡ true
+    → r ≡ putAll (items (version bs)) (numbersAs (version bs) bs) lowRecord → Whole bs r
+headed-whole bs r h i e = record { known = h .known; long = version-length (length bs) (h .known); first = h .first; field = h .field; inside = i; is = e }
+
+pub read-tells : (bs : List ℕ) (r : Record) → readOf bs ≡ (done, r) → Whole bs r
+unfolding readOf bodyOf takenFrom
+read-tells bs r e =
+    let a = after (headerOf bs) e in
+    let b = body (allFit (items (version bs)) (numbersAs (version bs) bs)) (a .1) in
+    headed-whole bs r (header-tells bs (a .0)) (b .0) (b .1)
+  where
+    after : (h : Outcome) → afterHeader h bs ≡ (done, r) → (h ≡ done) × (bodyOf bs ≡ (done, r))
+    after (K k) f = absurd (refused-done k lowRecord r f)
+    after done f = (refl, f)
+
+    body : (p : Bool) → unless {A = Outcome × Record} p (K 4, lowRecord) (done, putAll (items (version bs)) (numbersAs (version bs) bs) lowRecord) ≡ (done, r)
+        → (p ≡ true) × (r ≡ putAll (items (version bs)) (numbersAs (version bs) bs) lowRecord)
     body true f = (refl, sym (ap (λ (x : Outcome × Record). x .1) f))
     body false f = absurd (refused-done 4 lowRecord r f)
 
+-- behind a good header the body is read
+headed-read : (bs : List ℕ) → headerOf bs ≡ done → readOf bs ≡ bodyOf bs
+unfolding readOf
+headed-read bs e = ap (λ (h : Outcome). afterHeader h bs) e
+
 whole-read : (bs : List ℕ) (r : Record) → Whole bs r → readOf bs ≡ (done, r)
-unfolding readOf headerOf bodyOf takenFrom
-whole-read bs r w = simp (eq-eqb _ _ (w .long), eq-eqb _ _ (w .version), eq-eqb _ _ (w .field), w .inside) (ap (λ (x : Record). (done, x)) (sym (w .is)))
+unfolding bodyOf takenFrom
+whole-read bs r w =
+    headed-read bs (headed-done bs (record { known = w .known; first = w .first; field = w .field })) ∙ simp (w .inside) (ap (λ (x : Record). (done, x)) (sym (w .is)))
+
+-- what holds of the low record and of every record in whole bytes holds of the record that reading gives
+by-reading : (P : Record → Type 0) (bs : List ℕ) → P lowRecord → ((r : Record) → Whole bs r → P r) → P (readOf bs .1)
+unfolding readOf bodyOf takenFrom
+by-reading P bs low whole = after (headerOf bs) refl
+  where
+    body : (b : Bool) → headerOf bs ≡ done → allFit (items (version bs)) (numbersAs (version bs) bs) ≡ b
+        → P (unless {A = Outcome × Record} b (K 4, lowRecord) (done, putAll (items (version bs)) (numbersAs (version bs) bs) lowRecord) .1)
+    body true e i = whole _ (headed-whole bs _ (header-tells bs e) i refl)
+    body false e i = low
+
+    after : (h : Outcome) → headerOf bs ≡ h → P (afterHeader h bs .1)
+    after (K k) e = low
+    after done e = body (allFit (items (version bs)) (numbersAs (version bs) bs)) e refl
 
 -- ---- the stored form
-slots-fit : allFit (slotsFrom headerWidth (items current)) ≡ true
+slots-roomy : roomy (slotsFrom headerWidth (items current)) ≡ true
 unfolding slotsFrom rangeAt
-slots-fit = refl
+slots-roomy = refl
 
 header-length : length headerBytes ≡ headerWidth
 header-length = let b = big-length 2 (storedLength current) in omega arith
 
+-- bytes of the written length are of the version that is written
+of-current : (bs : List ℕ) → length bs ≡ storedLength current → version bs ≡ current
+of-current bs l = ap versionOf l ∙ length-version current refl
+
+-- and have a good header if they begin with its bytes
+begun-headed : (rest : List ℕ) → length (headerBytes ++ rest) ≡ storedLength current → Headed (headerBytes ++ rest)
+begun-headed rest l =
+    let v = of-current (headerBytes ++ rest) l in
+    record {
+      known = ap (λ (w : ℕ). member w versions) v;
+      first = sym v;
+      field =
+          ap numberOf (take-at (bigEndian 2 (storedLength current)) rest 2 (big-length 2 (storedLength current))) ∙
+          (number-big 2 (storedLength current) (omega (arith, stored-180)) ∙ sym l);
+    }
+
 module _ (r : Record) (v : valid r ≡ true) where
-  form-numbers : numbersIn (slotsFrom headerWidth (items current)) (storedForm r) ≡ numbersOf (items current) r
+  form-numbers : numbersAs current (storedForm r) ≡ numbersOf (items current) r
   unfolding storedForm
   form-numbers =
       ap (λ (k : ℕ). numbersIn (slotsFrom k (items current)) (headerBytes ++ packed (items current) r)) (sym header-length) ∙
       numbers-back headerBytes (items current) (numbersOf (items current) r) (numbers-length (items current) r)
-      (ap (λ (k : ℕ). allFit (slotsFrom k (items current))) header-length ∙ slots-fit)
-      (ap (λ (k : ℕ). allIn (slotsFrom k (items current)) (numbersOf (items current) r)) header-length ∙ numbers-in headerWidth r v)
+      (ap (λ (k : ℕ). roomy (slotsFrom k (items current))) header-length ∙ slots-roomy) (numbers-in r v)
 
   form-whole : Whole (storedForm r) r
   unfolding storedForm
   form-whole =
-      record {
-        long = form-length r;
-        version = refl;
-        field =
-            ap numberOf (take-at (bigEndian 2 (storedLength current)) (packed (items current) r) 2 (big-length 2 (storedLength current))) ∙
-            number-big 2 (storedLength current) (omega (arith, stored-177));
-        inside = ap (allIn (slotsFrom headerWidth (items current))) form-numbers ∙ numbers-in headerWidth r v;
-        is = sym (ap (λ (ns : List ℕ). putAll (items current) ns lowRecord) form-numbers ∙ record-of-numbers headerWidth r v);
-      }
+      let e = of-current (storedForm r) (form-length r) in
+      headed-whole (storedForm r) r (begun-headed (packed (items current) r) (form-length r))
+      (ap (λ (u : ℕ). allFit (items u) (numbersAs u (storedForm r))) e ∙ (ap (allFit (items current)) form-numbers ∙ numbers-in r v))
+      (sym (ap (λ (u : ℕ). putAll (items u) (numbersAs u (storedForm r)) lowRecord) e ∙
+      (ap (λ (ns : List ℕ). putAll (items current) ns lowRecord) form-numbers ∙ record-of-numbers r v)))
 
 -- reading what was written gives the record
 pub read-written : (r : Record) (o b : List ℕ) → writeOf r o ≡ (done, b) → readOf (take (storedLength current) b) ≡ (done, r)
@@ -192,28 +251,29 @@ read-written r o b e =
     ap (λ (x : List ℕ). readOf (take (storedLength current) x)) (w .buffer) ∙
     (ap readOf (over-take (storedForm r) o (storedLength current) (form-length r)) ∙ whole-read (storedForm r) r (form-whole r (w .valid-record)))
 
--- ---- whole bytes are the stored form of their record
+-- ---- whole bytes are the form of their record, in their own version
+abbrev formOf : ℕ → Record → List ℕ
+formOf v r = (v ∷ bigEndian 2 (storedLength v)) ++ packed (items v) r
+
 module _ (bs : List ℕ) (r : Record) (w : Whole bs r) where
-  abbrev read : List ℕ
-  read = numbersIn (slotsFrom headerWidth (items current)) bs
-
   whole-valid : valid r ≡ true
-  whole-valid = ap valid (w .is) ∙ numbers-valid headerWidth read (w .inside)
+  whole-valid = ap valid (w .is) ∙ numbers-valid (version bs) (w .known) (numbersAs (version bs) bs) (w .inside)
 
-  whole-numbers : numbersOf (items current) r ≡ read
+  whole-numbers : numbersOf (items (version bs)) r ≡ numbersAs (version bs) bs
   whole-numbers =
-      ap (numbersOf (items current)) (w .is) ∙ numbers-of-record headerWidth read (w .inside) (numbers-read-length headerWidth (items current) bs)
+      ap (numbersOf (items (version bs))) (w .is) ∙
+      numbers-of-record (version bs) (w .known) (numbersAs (version bs) bs) (w .inside) (numbers-read-length headerWidth (items (version bs)) bs)
 
-  whole-form : Bytes bs → storedForm r ≡ bs
-  unfolding storedForm storedLength
+  whole-form : Bytes bs → formOf (version bs) r ≡ bs
   whole-form h =
-      let l : length bs ≡ headerWidth + totalWidth (items current) = w .long in
+      let v : ℕ = version bs in
+      let l : length bs ≡ headerWidth + totalWidth (items v) = w .long ∙ length-items v (w .known) in
       let d = length-drop 1 bs in
-      let head : bigEndian 2 (storedLength current) ≡ take 2 (drop 1 bs) =
-      ap (bigEndian 2) (sym (w .field)) ∙ big-number 2 (take 2 (drop 1 bs)) (length-take-le 2 (drop 1 bs) (omega arith)) (bytes-take 2 (drop 1 bs) (bytes-drop 1 bs h)) in
-      let rest : packed (items current) r ≡ drop 3 bs = ap (pack (items current)) whole-numbers ∙ bytes-back headerWidth (items current) bs l h in
-      ap (λ (v : ℕ). v ∷ (bigEndian 2 (storedLength current) ++ packed (items current) r)) (sym (w .version)) ∙
-      (ap (λ (x : List ℕ). getD bs 0 0 ∷ (x ++ packed (items current) r)) head ∙
+      let head : bigEndian 2 (storedLength v) ≡ take 2 (drop 1 bs) =
+      ap (bigEndian 2) (sym (w .long) ∙ sym (w .field)) ∙ big-number 2 (take 2 (drop 1 bs)) (length-take-le 2 (drop 1 bs) (omega arith)) (bytes-take 2 (drop 1 bs) (bytes-drop 1 bs h)) in
+      let rest : packed (items v) r ≡ drop 3 bs = ap (pack (items v)) whole-numbers ∙ bytes-back headerWidth (items v) bs l h in
+      ap (λ (u : ℕ). u ∷ (bigEndian 2 (storedLength v) ++ packed (items v) r)) (sym (w .first)) ∙
+      (ap (λ (x : List ℕ). getD bs 0 0 ∷ (x ++ packed (items v) r)) head ∙
       (ap (λ (x : List ℕ). getD bs 0 0 ∷ (take 2 (drop 1 bs) ++ x)) (rest ∙ sym (drop-drop 2 1 bs)) ∙
       (ap (λ (x : List ℕ). getD bs 0 0 ∷ x) (take-append-drop 2 (drop 1 bs)) ∙ sym (drop-cons bs 0 0 (omega arith)))))
 
@@ -221,30 +281,165 @@ module _ (bs : List ℕ) (r : Record) (w : Whole bs r) where
 all-bytes : (bs : List ℕ) → ((i : ℕ) → i < length bs → getD bs i 0 < 256) → Bytes bs
 all-bytes bs h i = ⊎-elim (h i) (λ (q : length bs ≤ i). omega (arith, List·getD-eq-default bs 0 q)) (below-or-not i (length bs))
 
--- writing what was read gives the bytes
-pub written-read : (bs : List ℕ) (r : Record) (o : List ℕ) → ((i : ℕ) → i < length bs → getD bs i 0 < 256) → storedLength current ≤ length o
+-- writing what was read from bytes of the version that is written gives the bytes
+pub written-read : (bs : List ℕ) (r : Record) (o : List ℕ) → ((i : ℕ) → i < length bs → getD bs i 0 < 256) → length bs ≡ storedLength current → storedLength current ≤ length o
     → readOf bs ≡ (done, r) → writeOf r o ≡ (done, over bs o)
-unfolding writeOf
-written-read bs r o h l e =
+unfolding writeOf storedForm
+written-read bs r o h c l e =
     let w = read-tells bs r e in
-    simp (whole-valid bs r w, le-leb _ _ l) (ap (λ (x : List ℕ). (done, over x o)) (whole-form bs r w (all-bytes bs h)))
+    let f : storedForm r ≡ bs = ap (λ (v : ℕ). formOf v r) (sym (of-current bs c)) ∙ whole-form bs r w (all-bytes bs h) in
+    simp (whole-valid bs r w, le-leb _ _ l) (ap (λ (x : List ℕ). (done, over x o)) f)
 
--- so one record has one form
-pub one-form : (bs cs : List ℕ) (r : Record) → ((i : ℕ) → i < length bs → getD bs i 0 < 256) → ((i : ℕ) → i < length cs → getD cs i 0 < 256)
+-- so one record has one form in a version
+pub one-form : (bs cs : List ℕ) (r : Record) → ((i : ℕ) → i < length bs → getD bs i 0 < 256) → ((i : ℕ) → i < length cs → getD cs i 0 < 256) → length bs ≡ length cs
     → readOf bs ≡ (done, r) → readOf cs ≡ (done, r) → bs ≡ cs
-one-form bs cs r h g e f =
-    sym (whole-form bs r (read-tells bs r e) (all-bytes bs h)) ∙ whole-form cs r (read-tells cs r f) (all-bytes cs g)
+one-form bs cs r h g l e f =
+    sym (whole-form bs r (read-tells bs r e) (all-bytes bs h)) ∙
+    (ap (λ (n : ℕ). formOf (versionOf n) r) l ∙ whole-form cs r (read-tells cs r f) (all-bytes cs g))
 
 -- every record that reading gives is valid
 pub read-valid : (bs : List ℕ) → valid (readOf bs .1) ≡ true
-unfolding readOf bodyOf takenFrom
-read-valid bs = after (headerOf bs)
-  where
-    body : (b : Bool) → allIn (slotsFrom headerWidth (items current)) (numbersIn (slotsFrom headerWidth (items current)) bs) ≡ b
-        → valid (unless {A = Outcome × Record} b (K 4, lowRecord) (done, putAll (items current) (numbersIn (slotsFrom headerWidth (items current)) bs) lowRecord) .1) ≡ true
-    body true e = numbers-valid headerWidth (numbersIn (slotsFrom headerWidth (items current)) bs) e
-    body false e = low-valid
+read-valid bs = by-reading (λ (r : Record). valid r ≡ true) bs low-valid (λ r w. whole-valid bs r w)
 
-    after : (h : Outcome) → valid (afterHeader h bs .1) ≡ true
-    after (K k) = low-valid
-    after done = body (allIn (slotsFrom headerWidth (items current)) (numbersIn (slotsFrom headerWidth (items current)) bs)) refl
+-- ---- lengths and versions
+
+-- K1: "a length of no known version", whatever the bytes
+pub length-unknown : (bs : List ℕ) → member (length bs) (map storedLength versions) ≡ false → readOf bs ≡ (K 1, lowRecord)
+unfolding readOf headerOf
+length-unknown bs n = let u : member (version bs) versions ≡ false = ap (λ (v : ℕ). member v versions) (none-found versions (length bs) n) in simp u
+
+-- K2: "a version that isn't the length's"
+pub version-other : (v : ℕ) → Known v → (bs : List ℕ) → length bs ≡ storedLength v → (getD bs 0 0 ≡ v → ⊥) → readOf bs ≡ (K 2, lowRecord)
+unfolding readOf headerOf
+version-other v k bs l n =
+    let e : version bs ≡ v = ap versionOf l ∙ length-version v k in
+    let u : member (version bs) versions ≡ true = ap (λ (w : ℕ). member w versions) e ∙ k in
+    simp (u, ne-eqb (getD bs 0 0) (version bs) (λ q. n (q ∙ e)))
+
+-- ---- bytes of version 1
+
+-- a field that the version does not store is at its low end
+unstored-low : (bs : List ℕ) (g : Field) → namesIn (items (version bs)) (position g) ≡ false → get g (readOf bs .1) ≡ get g lowRecord
+unstored-low bs g n =
+    by-reading (λ (r : Record). get g r ≡ get g lowRecord) bs refl
+    (λ r w. ap (get g) (w .is) ∙ all-other (items (version bs)) (numbersAs (version bs) bs) lowRecord g n)
+
+no-alarm-low : get alarms lowRecord ≡ noAlarm
+unfolding lowRecord recordFrom
+no-alarm-low = refl
+
+-- "Version 1 is read as no alarms"
+pub old-no-alarm : (bs : List ℕ) → length bs ≡ storedLength 1 → get alarms (readOf bs .1) ≡ noAlarm
+old-no-alarm bs l =
+    unstored-low bs alarms (ap (λ (v : ℕ). namesIn (items v) (position alarms)) (ap versionOf l ∙ length-version 1 refl)) ∙ no-alarm-low
+
+-- the same bytes as the version that is written has them, with no alarm
+abbrev pub upgraded : List ℕ → List ℕ
+upgraded bs = headerBytes ++ (take (totalWidth scalarItems) (drop headerWidth bs) ++ (0 ∷ 0 ∷ 0 ∷ drop (parametersAt 1) bs))
+
+drop-take : (w n : ℕ) (l : List ℕ) → drop w (take (w + n) l) ≡ take n (drop w l)
+drop-take zero n l = let e : 0 + n ≡ n = omega arith in ap (λ (k : ℕ). take k l) e
+drop-take (suc w) n [] = let e : suc w + n ≡ suc (w + n) = omega arith in ap (λ (k : ℕ). drop (suc w) (take k [])) e ∙ sym (take-nil n)
+drop-take (suc w) n (a ∷ l) = let e : suc w + n ≡ suc (w + n) = omega arith in ap (λ (k : ℕ). drop (suc w) (take k (a ∷ l))) e ∙ drop-take w n l
+
+-- numbers of the same items in the same bytes, wherever these begin
+numbers-same : (xs : List Item) (at j : ℕ) (bs cs : List ℕ) → take (totalWidth xs) (drop at bs) ≡ take (totalWidth xs) (drop j cs)
+    → numbersIn (slotsFrom at xs) bs ≡ numbersIn (slotsFrom j xs) cs
+unfolding slotsFrom numbersIn
+numbers-same [] at j bs cs e = refl
+numbers-same (x ∷ xs) at j bs cs e =
+    let w : ℕ = itemWidth x in
+    let n : ℕ = totalWidth xs in
+    let front : (k : ℕ) (l : List ℕ) → numberAt l (itemSlot k x) ≡ numberOf (take w (take (w + n) (drop k l))) =
+    λ k l. number-at k x l ∙ ap numberOf (sym (take-take w (w + n) (drop k l) (omega arith))) in
+    let back : (k : ℕ) (l : List ℕ) → take n (drop (k + w) l) ≡ drop w (take (w + n) (drop k l)) =
+    λ k l. ap (take n) (sym (drop-drop w k l)) ∙ sym (drop-take w n (drop k l)) in
+    ap (λ (m : ℕ). m ∷ numbersIn (slotsFrom (at + w) xs) bs) (front at bs ∙ (ap (λ (l : List ℕ). numberOf (take w l)) e ∙ sym (front j cs))) ∙
+    ap (λ (ms : List ℕ). numberAt cs (itemSlot j x) ∷ ms) (numbers-same xs (at + w) (j + w) bs cs (back at bs ∙ (ap (drop w) e ∙ sym (back j cs))))
+
+taken-same : (xs : List Item) (at j : ℕ) (bs cs : List ℕ) (r : Record) → take (totalWidth xs) (drop at bs) ≡ take (totalWidth xs) (drop j cs)
+    → takenFrom at xs bs r ≡ takenFrom j xs cs r
+unfolding takenFrom
+taken-same xs at j bs cs r e =
+    ap (λ (ns : List ℕ). unless {A = Outcome × Record} (allFit xs ns) (K 4, lowRecord) (done, putAll xs ns r)) (numbers-same xs at j bs cs e)
+
+module _ (bs : List ℕ) (l : length bs ≡ storedLength 1) where
+  abbrev common : List ℕ
+  common = take (totalWidth scalarItems) (drop headerWidth bs)
+
+  abbrev behind : List ℕ
+  behind = 0 ∷ 0 ∷ 0 ∷ drop (parametersAt 1) bs
+
+  common-length : length common ≡ totalWidth scalarItems
+  common-length = length-take-le (totalWidth scalarItems) (drop headerWidth bs) (omega (arith, stored-177, length-drop headerWidth bs))
+
+  upgraded-length : length (upgraded bs) ≡ storedLength current
+  upgraded-length =
+      let a = length-append headerBytes (common ++ behind) in
+      let b = length-append common behind in
+      omega (arith, header-length, common-length, length-drop (parametersAt 1) bs, stored-177, stored-180, a, b)
+
+  drop-header : drop headerWidth (upgraded bs) ≡ common ++ behind
+  drop-header = drop-at headerBytes (common ++ behind) headerWidth header-length
+
+  drop-common : drop (parametersAt 1) (upgraded bs) ≡ behind
+  drop-common =
+      sym (drop-drop (totalWidth scalarItems) headerWidth (upgraded bs)) ∙
+      (ap (drop (totalWidth scalarItems)) drop-header ∙ drop-at common behind (totalWidth scalarItems) common-length)
+
+  drop-alarms : drop (parametersAt current) (upgraded bs) ≡ drop (parametersAt 1) bs
+  drop-alarms = sym (drop-drop 3 (parametersAt 1) (upgraded bs)) ∙ ap (drop 3) drop-common
+
+  common-same : takenFrom headerWidth scalarItems bs lowRecord ≡ takenFrom headerWidth scalarItems (upgraded bs) lowRecord
+  common-same =
+      taken-same scalarItems headerWidth headerWidth bs (upgraded bs) lowRecord
+      (sym (ap (take (totalWidth scalarItems)) drop-header ∙ take-at common behind (totalWidth scalarItems) common-length))
+
+  module _ (r : Record) (a : get alarms r ≡ noAlarm) where
+    alarms-pass : takenFrom (parametersAt 1) (bitMapped ∷ parameterItems parameterCount) (upgraded bs) r ≡ takenFrom (parametersAt current) (parameterItems parameterCount) (upgraded bs) r
+    unfolding numberFrom
+    alarms-pass =
+        let z : numberAt (upgraded bs) alarmsSlot ≡ 0 = ap (λ (t : List ℕ). numberOf (take 3 t)) drop-common in
+        taken-fitting (upgraded bs) (parametersAt 1) bitMapped (parameterItems parameterCount) r 0 (record { inside = ap (fits bitMapped) z ∙ zero-fits; is = z }) ∙
+        ap (λ (s : Record). takenFrom (parametersAt current) (parameterItems parameterCount) (upgraded bs) s) (no-alarm-put r a)
+
+    later-same : takenFrom (parametersAt 1) (parameterItems parameterCount) bs r ≡ takenFrom (parametersAt 1) (bitMapped ∷ parameterItems parameterCount) (upgraded bs) r
+    later-same =
+        taken-same (parameterItems parameterCount) (parametersAt 1) (parametersAt current) bs (upgraded bs) r (ap (take (totalWidth (parameterItems parameterCount))) (sym drop-alarms)) ∙
+        sym alarms-pass
+
+  abbrev read : List ℕ
+  read = numbersIn sharedSlots bs
+
+  common-fit : allFit scalarItems read ≡ true → takenFrom headerWidth scalarItems bs lowRecord ≡ (done, putAll scalarItems read lowRecord)
+  unfolding takenFrom
+  common-fit t = simp t
+
+  common-unfit : allFit scalarItems read ≡ false → takenFrom headerWidth scalarItems bs lowRecord ≡ (K 4, lowRecord)
+  unfolding takenFrom
+  common-unfit t = simp t
+
+  body-same : takenFrom headerWidth (scalarItems ++ parameterItems parameterCount) bs lowRecord
+      ≡ takenFrom headerWidth (scalarItems ++ (bitMapped ∷ parameterItems parameterCount)) (upgraded bs) lowRecord
+  body-same =
+      by-test (allFit scalarItems read)
+      (λ t.
+      let s : Record = putAll scalarItems read lowRecord in
+      let d : takenFrom headerWidth scalarItems bs lowRecord ≡ (done, s) = common-fit t in
+      taken-done bs headerWidth scalarItems (parameterItems parameterCount) lowRecord s d ∙
+      (later-same s (all-other scalarItems read lowRecord alarms refl ∙ no-alarm-low) ∙
+      sym (taken-done (upgraded bs) headerWidth scalarItems (bitMapped ∷ parameterItems parameterCount) lowRecord s (sym common-same ∙ d))))
+      (λ t.
+      taken-refused bs headerWidth scalarItems (parameterItems parameterCount) lowRecord (common-unfit t) ∙
+      sym (taken-refused (upgraded bs) headerWidth scalarItems (bitMapped ∷ parameterItems parameterCount) lowRecord (sym common-same ∙ common-unfit t)))
+
+  -- bytes of version 1 are read as these are
+  pub old-read : headerOf bs ≡ done → readOf bs ≡ readOf (upgraded bs)
+  unfolding bodyOf
+  old-read e =
+      let v : version bs ≡ 1 = ap versionOf l ∙ length-version 1 refl in
+      let w : version (upgraded bs) ≡ current = of-current (upgraded bs) upgraded-length in
+      headed-read bs e ∙
+      (ap (λ (u : ℕ). takenFrom headerWidth (items u) bs lowRecord) v ∙
+      (body-same ∙
+      (sym (ap (λ (u : ℕ). takenFrom headerWidth (items u) (upgraded bs) lowRecord) w) ∙ sym (headed-read (upgraded bs) (headed-done (upgraded bs) (begun-headed (common ++ behind) upgraded-length))))))

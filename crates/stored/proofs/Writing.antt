@@ -1,5 +1,5 @@
 -- Numbers stored one behind the other, and what the returns of writing give. Assumes nothing.
-use Prim.Native.Nat.{ℕ, zero, suc, _+_, _-_, _*_, _≤_, _<_}
+use Prim.Native.Nat.{ℕ, zero, suc, _+_, _-_, _*_, _/_, _%_, _≤_, _<_}
 use mathlib.Core.Bool.{Bool, true, false, not}
 use mathlib.Core.Path.{_≡_, refl, sym, ap, _∙_}
 use mathlib.Core.List.{List, [], _∷_, _++_, map, append-assoc, append-nil}
@@ -16,10 +16,12 @@ use Rattle.state.specs.Parameter.{parameterCount}
 use Rattle.state.specs.Field.{phaseNumber}
 use Rattle.state.specs.Valid.{valid}
 use Rattle.stored.specs.declared.Slot.{Slot}
-use Rattle.stored.specs.Layout.{Item, alone, together, scalarItems, parameterItems, current, items, headerWidth, itemWidth, totalWidth, parametersAt, itemSlot, slotsFrom, scalarSlots, noSlot, itemNumber, numbersOf, bits, flagFields}
+use Rattle.stored.specs.Layout.{Item, alone, together, bitMapped, parameterItems, current, scalarsOf, items, headerWidth, itemWidth, totalWidth, parametersAt, itemSlot, slotsFrom, scalarSlots, noSlot, alarmsStored, itemNumber, numbersOf, bits, flagFields}
 use Rattle.stored.specs.Form.{K, done, bigEndian, pack, packed, stored, storedLength, headerBytes, storedForm, writeOf}
 use Rattle.stored.proofs.Bytes.{big-length, sets-append, sets-next, sets-over, part-filled}
-use Rattle.stored.proofs.Slots.{pair, valueSlot, levelSlot, parameters-width, formLength, stored-177, Others, last-place}
+use Rattle.stored.proofs.Slots.{pair, valueSlot, levelSlot, parameters-width, stored-180, Others, last-place}
+use Rattle.stored.proofs.Versions.{lengthOf}
+use Rattle.stored.proofs.Alarms.{stored-sum}
 
 -- ---- the numbers of a list of items
 map-append : {A B : Type 0} (f : A → B) (xs ys : List A) → map f (xs ++ ys) ≡ map f xs ++ map f ys
@@ -59,6 +61,7 @@ packed-append xs ys r =
 slot-stored : (at : ℕ) (x : Item) (n : ℕ) (o : List ℕ) → stored (itemSlot at x) n o ≡ sets o at (bigEndian (itemWidth x) n)
 slot-stored at (alone w f) n o = refl
 slot-stored at (together fs) n o = refl
+slot-stored at bitMapped n o = refl
 
 -- the number at a place, behind those before it
 store-next : (at : ℕ) (xs : List Item) (ns : List ℕ) (k : ℕ) (o z : List ℕ) → k < length xs → length ns ≡ length xs → z ≡ sets o at (pack (take k xs) (take k ns))
@@ -85,36 +88,36 @@ module _ (s : Slot) (n : ℕ) (o ys : List ℕ) (room : s .at + s .width ≤ len
 
 -- ---- the numbers before the parameters'
 abbrev pub Scalars : Record → ℕ → List ℕ → List ℕ → Type 0
-Scalars r k o z = z ≡ sets o headerWidth (pack (take k scalarItems) (take k (numbersOf scalarItems r)))
+Scalars r k o z = z ≡ sets o headerWidth (pack (take k (scalarsOf current)) (take k (numbersOf (scalarsOf current) r)))
 
 pub scalars-none : (r : Record) (o : List ℕ) → Scalars r 0 o o
 unfolding pack
 scalars-none r o = refl
 
-pub scalars-more : (r : Record) (k n : ℕ) (s : Slot) (o y z : List ℕ) → k < length scalarItems → n ≡ getD (numbersOf scalarItems r) k 0 → s ≡ getD scalarSlots k noSlot → Scalars r k o y
+pub scalars-more : (r : Record) (k n : ℕ) (s : Slot) (o y z : List ℕ) → k < length (scalarsOf current) → n ≡ getD (numbersOf (scalarsOf current) r) k 0 → s ≡ getD (scalarSlots current) k noSlot → Scalars r k o y
     → z ≡ stored s n y → Scalars r (k + 1) o z
 scalars-more r k n s o y z h e i q p =
     p ∙ (ap (λ (m : ℕ). stored s m y) e ∙
-    (ap (λ (t : Slot). stored t (getD (numbersOf scalarItems r) k 0) y) i ∙
-    (store-next headerWidth scalarItems (numbersOf scalarItems r) k o y h (numbers-length scalarItems r) q ∙
-    ap (λ (j : ℕ). sets o headerWidth (pack (take j scalarItems) (take j (numbersOf scalarItems r)))) (sym (add-one k)))))
+    (ap (λ (t : Slot). stored t (getD (numbersOf (scalarsOf current) r) k 0) y) i ∙
+    (store-next headerWidth (scalarsOf current) (numbersOf (scalarsOf current) r) k o y h (numbers-length (scalarsOf current) r) q ∙
+    ap (λ (j : ℕ). sets o headerWidth (pack (take j (scalarsOf current)) (take j (numbersOf (scalarsOf current) r)))) (sym (add-one k)))))
 
-pub scalars-all : (r : Record) (k : ℕ) (o z : List ℕ) → k ≤ length scalarItems → length scalarItems ≤ k → Scalars r k o z → z ≡ sets o headerWidth (packed scalarItems r)
+pub scalars-all : (r : Record) (k : ℕ) (o z : List ℕ) → k ≤ length (scalarsOf current) → length (scalarsOf current) ≤ k → Scalars r k o z → z ≡ sets o headerWidth (packed (scalarsOf current) r)
 unfolding numbersOf
 scalars-all r k o z l h e =
-    let q : k ≡ length scalarItems = omega arith in e ∙ ap (λ (j : ℕ). sets o headerWidth (pack (take j scalarItems) (take j (numbersOf scalarItems r)))) q
+    let q : k ≡ length (scalarsOf current) = omega arith in e ∙ ap (λ (j : ℕ). sets o headerWidth (pack (take j (scalarsOf current)) (take j (numbersOf (scalarsOf current) r)))) q
 
 -- ---- the parameters'
 abbrev pub Parameters : Record → ℕ → List ℕ → List ℕ → Type 0
-Parameters r i o z = z ≡ sets o parametersAt (packed (parameterItems i) r)
+Parameters r i o z = z ≡ sets o (parametersAt current) (packed (parameterItems i) r)
 
 pub parameters-none : (r : Record) (o : List ℕ) → Parameters r 0 o o
 unfolding pack numbersOf
 parameters-none r o = refl
 
 pub parameters-more : (r : Record) (i n m : ℕ) (s t : Slot) (o y x z : List ℕ) → i < parameterCount → Parameters r i o y
-    → n ≡ getD (r .values) i 0 → s ≡ valueSlot i → x ≡ stored s n y
-    → m ≡ getD (r .levels) i 0 → t ≡ levelSlot i → z ≡ stored t m x → Parameters r (i + 1) o z
+    → n ≡ getD (r .values) i 0 → s ≡ valueSlot (parametersAt current) i → x ≡ stored s n y
+    → m ≡ getD (r .levels) i 0 → t ≡ levelSlot (parametersAt current) i → z ≡ stored t m x → Parameters r (i + 1) o z
 unfolding pack numbersOf bigEndian
 parameters-more r i n m s t o y x z h q en es ex em et ez =
     let v : ℕ = getD (r .values) i 0 in
@@ -123,28 +126,28 @@ parameters-more r i n m s t o y x z h q en es ex em et ez =
     let w : length f ≡ 5 * i = packed-length (parameterItems i) r ∙ parameters-width i in
     let b : length (bigEndian 4 v) ≡ 4 = big-length 4 v in
     let c : length (f ++ bigEndian 4 v) ≡ 5 * i + 4 = length-append f (bigEndian 4 v) ∙ omega arith in
-    let x₁ : x ≡ sets y (parametersAt + 5 * i) (bigEndian 4 v) =
+    let x₁ : x ≡ sets y (parametersAt current + 5 * i) (bigEndian 4 v) =
     ex ∙ (ap (λ (k : ℕ). stored s k y) en ∙ ap (λ (u : Slot). stored u v y) es) in
-    let z₁ : z ≡ sets x (parametersAt + 5 * i + 4) (bigEndian 1 l) =
+    let z₁ : z ≡ sets x (parametersAt current + 5 * i + 4) (bigEndian 1 l) =
     ez ∙ (ap (λ (k : ℕ). stored t k x) em ∙ ap (λ (u : Slot). stored u l x) et) in
-    let x₂ : x ≡ sets o parametersAt (f ++ bigEndian 4 v) = x₁ ∙ sets-next o y parametersAt (parametersAt + 5 * i) f (bigEndian 4 v) q (omega arith) in
-    let z₂ : z ≡ sets o parametersAt ((f ++ bigEndian 4 v) ++ bigEndian 1 l) =
-    z₁ ∙ sets-next o x parametersAt (parametersAt + 5 * i + 4) (f ++ bigEndian 4 v) (bigEndian 1 l) x₂ (omega arith) in
-    z₂ ∙ (ap (sets o parametersAt) (append-assoc f (bigEndian 4 v) (bigEndian 1 l) ∙ sym (packed-append (parameterItems i) (pair i) r)) ∙
-    ap (λ (j : ℕ). sets o parametersAt (packed (parameterItems j) r)) (sym (add-one i)))
+    let x₂ : x ≡ sets o (parametersAt current) (f ++ bigEndian 4 v) = x₁ ∙ sets-next o y (parametersAt current) (parametersAt current + 5 * i) f (bigEndian 4 v) q (omega arith) in
+    let z₂ : z ≡ sets o (parametersAt current) ((f ++ bigEndian 4 v) ++ bigEndian 1 l) =
+    z₁ ∙ sets-next o x (parametersAt current) (parametersAt current + 5 * i + 4) (f ++ bigEndian 4 v) (bigEndian 1 l) x₂ (omega arith) in
+    z₂ ∙ (ap (sets o (parametersAt current)) (append-assoc f (bigEndian 4 v) (bigEndian 1 l) ∙ sym (packed-append (parameterItems i) (pair i) r)) ∙
+    ap (λ (j : ℕ). sets o (parametersAt current) (packed (parameterItems j) r)) (sym (add-one i)))
 
 pub parameters-all : (r : Record) (i : ℕ) (o z : List ℕ) → i ≤ parameterCount → parameterCount ≤ i → Parameters r i o z
-    → z ≡ sets o parametersAt (packed (parameterItems parameterCount) r)
-parameters-all r i o z l h e = let q : i ≡ parameterCount = omega arith in e ∙ ap (λ (j : ℕ). sets o parametersAt (packed (parameterItems j) r)) q
+    → z ≡ sets o (parametersAt current) (packed (parameterItems parameterCount) r)
+parameters-all r i o z l h e = let q : i ≡ parameterCount = omega arith in e ∙ ap (λ (j : ℕ). sets o (parametersAt current) (packed (parameterItems j) r)) q
 
 -- ---- the header
-module _ (o ys : List ℕ) (room : 3 ≤ length o) (filled : ys ≡ bigEndian (length (take 2 (drop 1 (set o 0 1)))) formLength) where
-  pub header-put : putMid 1 2 (set o 0 1) ys ≡ sets o 0 headerBytes
+module _ (o ys : List ℕ) (room : 3 ≤ length o) (filled : ys ≡ bigEndian (length (take 2 (drop 1 (set o 0 current)))) (lengthOf current)) where
+  pub header-put : putMid 1 2 (set o 0 current) ys ≡ sets o 0 headerBytes
   header-put =
-      let l = length-set o 0 1 in
-      part-filled 1 2 formLength (set o 0 1) ys (omega arith) filled ∙ ap (λ (n : ℕ). sets (set o 0 1) 1 (bigEndian 2 n)) (sym stored-177)
+      let l = length-set o 0 current in
+      part-filled 1 2 (lengthOf current) (set o 0 current) ys (omega arith) filled ∙ ap (λ (n : ℕ). sets (set o 0 current) 1 (bigEndian 2 n)) (sym stored-180)
 
-  pub header-same : length (putMid 1 2 (set o 0 1) ys) ≡ length o
+  pub header-same : length (putMid 1 2 (set o 0 current) ys) ≡ length o
   header-same = ap length header-put ∙ length-sets o 0 headerBytes
 
 -- ---- all
@@ -160,38 +163,39 @@ module _ (r : Record) (o : List ℕ) (b : Bool) (v : b ≡ valid r) where
   unfolding writeOf
   write-invalid n = simp (sym v ∙ not-true b n)
 
-  pub write-short : not b ≡ false → length o < formLength → (K 6, o) ≡ writeOf r o
+  pub write-short : not b ≡ false → length o < lengthOf current → (K 6, o) ≡ writeOf r o
   unfolding writeOf
-  write-short n h = simp (sym v ∙ not-false b n, stored-177, lt-leb formLength (length o) h)
+  write-short n h = simp (sym v ∙ not-false b n, stored-180, lt-leb (lengthOf current) (length o) h)
 
-  pub write-whole : (x y z : List ℕ) → not b ≡ false → formLength ≤ length o → x ≡ sets o 0 headerBytes → y ≡ sets x headerWidth (packed scalarItems r)
-      → z ≡ sets y parametersAt (packed (parameterItems parameterCount) r) → (done, z) ≡ writeOf r o
+  pub write-whole : (x y z : List ℕ) → not b ≡ false → lengthOf current ≤ length o → x ≡ sets o 0 headerBytes → y ≡ sets x headerWidth (packed (scalarsOf current) r)
+      → z ≡ sets y (parametersAt current) (packed (parameterItems parameterCount) r) → (done, z) ≡ writeOf r o
   unfolding writeOf storedForm
   write-whole x y z n h ex ey ez =
       let l : length headerBytes ≡ 3 = let c = big-length 2 (storedLength current) in omega arith in
-      let m = packed-length scalarItems r in
-      let k : length (headerBytes ++ packed scalarItems r) ≡ parametersAt = length-append headerBytes (packed scalarItems r) ∙ omega arith in
-      let y₁ : y ≡ sets o 0 (headerBytes ++ packed scalarItems r) = ey ∙ sets-next o x 0 headerWidth headerBytes (packed scalarItems r) ex (omega arith) in
-      let z₁ : z ≡ sets o 0 ((headerBytes ++ packed scalarItems r) ++ packed (parameterItems parameterCount) r) =
-      ez ∙ sets-next o y 0 parametersAt (headerBytes ++ packed scalarItems r) (packed (parameterItems parameterCount) r) y₁ (omega arith) in
-      let whole : (headerBytes ++ packed scalarItems r) ++ packed (parameterItems parameterCount) r ≡ storedForm r =
-      append-assoc headerBytes (packed scalarItems r) (packed (parameterItems parameterCount) r) ∙
-      ap (λ (t : List ℕ). headerBytes ++ t) (sym (packed-append scalarItems (parameterItems parameterCount) r)) in
-      let z₂ : z ≡ over (storedForm r) o = z₁ ∙ (ap (sets o 0) whole ∙ sets-over (storedForm r) o (omega (arith, form-length r, stored-177))) in
-      ap (λ (t : List ℕ). (done, t)) z₂ ∙ simp (sym v ∙ not-false b n, stored-177, le-leb formLength (length o) h)
+      let m = packed-length (scalarsOf current) r in
+      let k : length (headerBytes ++ packed (scalarsOf current) r) ≡ parametersAt current = length-append headerBytes (packed (scalarsOf current) r) ∙ omega arith in
+      let y₁ : y ≡ sets o 0 (headerBytes ++ packed (scalarsOf current) r) = ey ∙ sets-next o x 0 headerWidth headerBytes (packed (scalarsOf current) r) ex (omega arith) in
+      let z₁ : z ≡ sets o 0 ((headerBytes ++ packed (scalarsOf current) r) ++ packed (parameterItems parameterCount) r) =
+      ez ∙ sets-next o y 0 (parametersAt current) (headerBytes ++ packed (scalarsOf current) r) (packed (parameterItems parameterCount) r) y₁ (omega arith) in
+      let whole : (headerBytes ++ packed (scalarsOf current) r) ++ packed (parameterItems parameterCount) r ≡ storedForm r =
+      append-assoc headerBytes (packed (scalarsOf current) r) (packed (parameterItems parameterCount) r) ∙
+      ap (λ (t : List ℕ). headerBytes ++ t) (sym (packed-append (scalarsOf current) (parameterItems parameterCount) r)) in
+      let z₂ : z ≡ over (storedForm r) o = z₁ ∙ (ap (sets o 0) whole ∙ sets-over (storedForm r) o (omega (arith, form-length r, stored-180))) in
+      ap (λ (t : List ℕ). (done, t)) z₂ ∙ simp (sym v ∙ not-false b n, stored-180, le-leb (lengthOf current) (length o) h)
 
 -- ---- the number at a place, as the code gives it
 abbrev pub scalarNumbers : Record → List ℕ
 scalarNumbers r =
-    r .address ∷ r .access ∷ phaseNumber (r .phase) ∷ bits r flagFields ∷ r .recipe ∷ r .preset ∷ r .raw ∷ r .number ∷ []
+    r .address ∷ r .access ∷ phaseNumber (r .phase) ∷ bits r flagFields ∷ r .recipe ∷ r .preset ∷ r .raw ∷ r .number ∷ alarmsStored (r .alarms) ∷ []
 
-pub number-here : (j : ℕ) (r : Record) (k n : ℕ) → k ≡ j → n ≡ getD (scalarNumbers r) j 0 → n ≡ getD (numbersOf scalarItems r) k 0
+pub number-here : (j : ℕ) (r : Record) (k n : ℕ) → k ≡ j → n ≡ getD (scalarNumbers r) j 0 → n ≡ getD (numbersOf (scalarsOf current) r) k 0
 unfolding numbersOf
 number-here j r k n e q = q ∙ ap (λ (i : ℕ). getD (scalarNumbers r) i 0) (sym e)
 
 -- by one step more
-pub number-there : (j : ℕ) (r : Record) (k n m : ℕ) → k ≡ j → n ≡ m → m ≡ getD (scalarNumbers r) j 0 → n ≡ getD (numbersOf scalarItems r) k 0
+pub number-there : (j : ℕ) (r : Record) (k n m : ℕ) → k ≡ j → n ≡ m → m ≡ getD (scalarNumbers r) j 0 → n ≡ getD (numbersOf (scalarsOf current) r) k 0
 number-there j r k n m e p q = number-here j r k n e (p ∙ q)
 
-pub number-last : (r : Record) (k n : ℕ) → Others k → k < length scalarItems → n ≡ getD (scalarNumbers r) 7 0 → n ≡ getD (numbersOf scalarItems r) k 0
-number-last r k n o h q = number-here 7 r k n (last-place k o h) q
+pub number-last : (r : Record) (k : ℕ) → Others k → k < length (scalarsOf current)
+    → r .alarms / 8 % 65536 * 256 + r .alarms % 8 * 16 ≡ getD (numbersOf (scalarsOf current) r) k 0
+number-last r k o h = number-here 8 r k _ (last-place k o h) (sym (stored-sum (r .alarms)))

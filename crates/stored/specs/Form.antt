@@ -1,11 +1,12 @@
--- Document 01, "Stored record": the bytes of a record, and what writing and reading answer.
+-- Document 01, "Stored record", and 02, L1: the bytes of a record, and what writing and reading answer.
 use Prim.Native.Nat.{ℕ, zero, suc, _+_, _*_, _/_, _%_}
 use mathlib.Core.Bool.{Bool, true, false, _&&_}
 use mathlib.Core.List.{List, [], _∷_, _++_}
+use lib.Bits.{bitAnd}
 use lib.Dec.{eqb, leb}
 use lib.ListN.{length, getD, take, drop}
 use lib.Seq.{sets}
-use Rattle.base.specs.Test.{unless, pick, between}
+use Rattle.base.specs.Test.{unless, pick, between, member}
 use Rattle.base.specs.Lists.{over}
 use Rattle.state.specs.declared.Record.{Record}
 use Rattle.state.specs.Field.{value, level, fieldRange, recordFrom}
@@ -23,7 +24,7 @@ use Rattle.stored.specs.declared.Number.{Number}
 use Rattle.stored.specs.declared.Number.the-variants as number
 use Rattle.stored.specs.declared.Parameter.{Parameter}
 use Rattle.stored.specs.declared.Parameter.the-variants as parameter
-use Rattle.stored.specs.Layout.{Item, alone, current, items, itemWidth, totalWidth, headerWidth, parametersAt, itemSlot, slotsFrom, numbersOf, putAll}
+use Rattle.stored.specs.Layout.{Item, alone, bitMapped, versions, current, items, itemWidth, totalWidth, headerWidth, parametersAt, itemSlot, slotsFrom, unusedBits, fits, numbersOf, putAll}
 
 -- ---- the code's answers as document 01 numbers them: K1 to K6, or done
 pub data Outcome : Type 0 where
@@ -86,16 +87,24 @@ stored s n o = sets o (s .at) (bigEndian (s .width) n)
 abbrev pub inSlot : Slot → ℕ → Bool
 inSlot s n = between (s .low) (s .high) n
 
-unfoldable pub allIn : List Slot → List ℕ → Bool
-allIn [] ns = true
-allIn (s ∷ ss) [] = false
-allIn (s ∷ ss) (n ∷ ns) = inSlot s n && allIn ss ns
+unfoldable pub allFit : List Item → List ℕ → Bool
+allFit [] ns = true
+allFit (x ∷ xs) [] = false
+allFit (x ∷ xs) (n ∷ ns) = fits x n && allFit xs ns
 
--- ---- the stored form: "version 1; total length in 2 bytes, high first"; then the numbers
+-- ---- the stored form: the version; "total length in 2 bytes, high first"; then the numbers
 
--- "177 bytes"; 0 for a version that is not known
+-- 01: "177 bytes"; 02: "version 2 .., 180 bytes"; 0 for a version that is not known
 unfoldable pub storedLength : ℕ → ℕ
-storedLength version = pick (eqb version current) (headerWidth + totalWidth (items version)) 0
+storedLength version = pick (member version versions) (headerWidth + totalWidth (items version)) 0
+
+-- the version that has a length; 0 if none has
+unfoldable pub versionIn : List ℕ → ℕ → ℕ
+versionIn [] l = 0
+versionIn (v ∷ vs) l = pick (eqb l (storedLength v)) v (versionIn vs l)
+
+abbrev pub versionOf : ℕ → ℕ
+versionOf l = versionIn versions l
 
 abbrev pub headerBytes : List ℕ
 headerBytes = current ∷ bigEndian 2 (storedLength current)
@@ -103,34 +112,34 @@ headerBytes = current ∷ bigEndian 2 (storedLength current)
 unfoldable pub storedForm : Record → List ℕ
 storedForm r = headerBytes ++ packed (items current) r
 
--- ---- writing: "it refuses K5 record not valid, K6 buffer under 177; buffer untouched"
+-- ---- writing: "it refuses K5 record not valid", "K6 a buffer under the written length"; "buffer untouched"
 unfoldable pub writeOf : Record → List ℕ → Outcome × List ℕ
 writeOf r o =
     unless (valid r) (K 5, o)
     (unless (leb (storedLength current) (length o)) (K 6, o)
     (done, over (storedForm r) o))
 
--- ---- reading: "K1 length not 177, K2 version, K3 length field, K4 a field out of range or an unused flag bit set"
+-- ---- reading: "K1 is a length of no known version, K2 a version that isn't the length's", "K3 length field", "K4 a field out of range .."
 unfoldable pub headerOf : List ℕ → Outcome
 headerOf bs =
-    unless (eqb (length bs) (storedLength current)) (K 1)
-    (unless (eqb (getD bs 0 0) current) (K 2)
-    (unless (eqb (numberOf (take 2 (drop 1 bs))) (storedLength current)) (K 3)
+    unless (member (versionOf (length bs)) versions) (K 1)
+    (unless (eqb (getD bs 0 0) (versionOf (length bs))) (K 2)
+    (unless (eqb (numberOf (take 2 (drop 1 bs))) (length bs)) (K 3)
     done))
 
 -- "a record with every field at its low end, Idle and flags off"
 unfoldable pub lowRecord : Record
 lowRecord = recordFrom (λ f. fieldRange f .low)
 
--- what the numbers in the slots of some items make of a record: each goes into its field, if all lie in their slots
+-- what the numbers in the slots of some items make of a record: each goes into its field, if all fit
 unfoldable pub takenFrom : ℕ → List Item → List ℕ → Record → Outcome × Record
 takenFrom at xs bs r =
-    unless (allIn (slotsFrom at xs) (numbersIn (slotsFrom at xs) bs)) (K 4, lowRecord)
+    unless (allFit xs (numbersIn (slotsFrom at xs) bs)) (K 4, lowRecord)
     (done, putAll xs (numbersIn (slotsFrom at xs) bs) r)
 
--- a field that the version does not store is at its low end
+-- a field that the version does not store is at its low end: "Version 1 is read as no alarms"
 unfoldable pub bodyOf : List ℕ → Outcome × Record
-bodyOf bs = takenFrom headerWidth (items current) bs lowRecord
+bodyOf bs = takenFrom headerWidth (items (versionOf (length bs))) bs lowRecord
 
 -- "beside the number it then gives" the low record
 abbrev pub afterHeader : Outcome → List ℕ → Outcome × Record
@@ -144,12 +153,21 @@ readOf bs = afterHeader (headerOf bs) bs
 unfoldable pub numberRead : Slot → List ℕ → Number
 numberRead s bs = unless (inSlot s (numberAt bs s)) number.Outside (number.Inside (numberAt bs s))
 
--- the value and the level of the parameter at place i, if both do
+-- the number of the alarms, if no unused bit is set in it
+unfoldable pub alarmsRead : Number → Number
+alarmsRead number.Outside = number.Outside
+alarmsRead (number.Inside n) = unless (eqb (bitAnd n unusedBits) 0) number.Outside (number.Inside n)
+
+-- in stored bytes of a version; 0 in one that does not store it
+unfoldable pub alarmsAt : ℕ → List ℕ → Number
+alarmsAt version bs = pick (eqb version 1) (number.Inside 0) (alarmsRead (numberRead (itemSlot (parametersAt 1) bitMapped) bs))
+
+-- the value and the level of the parameter at place i, if both do, where the parameters begin at `at`
 abbrev pub pairRead : Number → Number → Parameter
 pairRead number.Outside l = parameter.Outside
 pairRead (number.Inside v) number.Outside = parameter.Outside
 pairRead (number.Inside v) (number.Inside l) = parameter.Inside v l
 
-unfoldable pub parameterRead : ℕ → List ℕ → Parameter
-parameterRead i bs =
-    pairRead (numberRead (itemSlot (parametersAt + 5 * i) (alone 4 (value i))) bs) (numberRead (itemSlot (parametersAt + 5 * i + 4) (alone 1 (level i))) bs)
+unfoldable pub parameterRead : ℕ → ℕ → List ℕ → Parameter
+parameterRead at i bs =
+    pairRead (numberRead (itemSlot (at + 5 * i) (alone 4 (value i))) bs) (numberRead (itemSlot (at + 5 * i + 4) (alone 1 (level i))) bs)

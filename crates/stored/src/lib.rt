@@ -14,16 +14,24 @@ use state::RECIPES;
 use state::Range;
 use state::Record;
 ghost use mathlib.Core.Path.{_≡_};
+ghost use mathlib.Core.Bool.{true};
 ghost use Prim.Native.Nat.{_+_, _*_, _≤_, _<_};
 ghost use lib.ListN.{length, getD};
 ghost use lib.Seq.{sets};
+ghost use Rattle.base.specs.Test.{member};
 ghost use Rattle.state.specs.Parameter.{parameterCount, rangeAt};
 ghost use Rattle.state.specs.Field.{value, level, phaseOf, flagNumber};
-ghost use Rattle.stored.specs.Layout.{alone, scalarItems, parameterItems, current, headerWidth, parametersAt, itemSlot, slotOf, scalarSlots, noSlot, flagFields, bits, numbersOf};
-ghost use Rattle.stored.specs.Form.{headerAs, answerAs, writtenAs, refusalNumber, K, bigEndian, numberOf, packed, stored, storedLength, headerBytes, writeOf, headerOf, lowRecord, takenFrom, bodyOf, readOf, numberRead, parameterRead};
+ghost use Rattle.stored.specs.Layout.{alone, parameterItems, versions, current, scalarsOf, headerWidth, parametersAt, itemSlot, slotOf, scalarSlots, noSlot, flagFields, bits, numbersOf};
+ghost use Rattle.stored.specs.Form.{headerAs, answerAs, writtenAs, refusalNumber, K, bigEndian, numberOf, packed, stored, storedLength, versionOf, headerBytes, writeOf, headerOf, lowRecord, takenFrom, bodyOf, readOf, numberRead, alarmsAt, parameterRead};
 
 // The version that is written.
-pub const VERSION: u8 = 1;
+pub const VERSION: u8 = 2;
+
+// The version that has no alarms.
+const WITHOUT_ALARMS: u8 = 1;
+
+// No version.
+const UNKNOWN: u8 = 0;
 
 // Version and total length.
 const HEADER: usize = 3;
@@ -45,16 +53,35 @@ const RAW: usize = 6;
 
 const NUMBER: usize = 7;
 
-const SCALARS: usize = 8;
+const ALARMS: usize = 8;
+
+const SCALARS: usize = 9;
 
 // A bit for each flag.
 const FLAGS_RANGE: Range = Range { low: 0, high: 31 };
 
-// Where the parameters' numbers begin.
-const PARAMETERS_AT: usize = HEADER + 14;
+// Any three bytes: which bits are used is tested apart.
+const THREE_BYTES: Range = Range {
+    low: 0,
+    high: 0xffffff,
+};
 
-// Bytes in all: a parameter's value takes 4, its level 1.
-pub const STORED_LENGTH: usize = PARAMETERS_AT + 5 * PARAMETERS;
+// The bits of these that no alarm has: the reserved one and the last four.
+const UNUSED_BITS: u32 = 0x8f;
+
+// Where the alarms stand, and the parameters' numbers where there are no alarms.
+const ALARMS_AT: usize = HEADER + 14;
+
+// Where the parameters' numbers begin.
+const PARAMETERS_AT: usize = ALARMS_AT + 3;
+
+// A parameter's value takes 4 bytes, its level 1.
+const PARAMETERS_LENGTH: usize = 5 * PARAMETERS;
+
+// Bytes in all, without the alarms and with them.
+const LENGTH_WITHOUT_ALARMS: usize = ALARMS_AT + PARAMETERS_LENGTH;
+
+pub const STORED_LENGTH: usize = PARAMETERS_AT + PARAMETERS_LENGTH;
 
 // Where a number is stored, in how many bytes, and within which range.
 pub struct Slot {
@@ -114,7 +141,30 @@ pub enum Written {
     Whole,
 }
 
-// ---- the layout: the slots that reading and writing go by
+// ---- the layout: the versions, and the slots that reading and writing go by
+
+// The version that has a length.
+fn version_of(length: usize) -> u8
+    ensures { λ v. ⌜ v ≡ versionOf length ⌝ }
+{
+    if length == STORED_LENGTH {
+        return VERSION;
+    }
+    if length == LENGTH_WITHOUT_ALARMS {
+        return WITHOUT_ALARMS;
+    }
+    UNKNOWN
+}
+
+// Where a version's parameters begin.
+fn parameters_at(version: u8) -> usize
+    ensures { λ at. ⌜ at ≡ parametersAt version ⌝ }
+{
+    if version == WITHOUT_ALARMS {
+        return ALARMS_AT;
+    }
+    PARAMETERS_AT
+}
 
 fn slot_of(at: usize, width: usize, range: Range) -> Slot
     ensures { λ s. ⌜ s ≡ slotOf at width range ⌝ }
@@ -129,8 +179,8 @@ fn slot_of(at: usize, width: usize, range: Range) -> Slot
 
 // The slot of the number at a place before the parameters'.
 fn scalar_slot(place: usize) -> Slot
-    requires { ⌜ place < length scalarItems ⌝ }
-    ensures { λ s. ⌜ s ≡ getD scalarSlots place noSlot ⌝ }
+    requires { ⌜ place < length (scalarsOf current) ⌝ }
+    ensures { λ s. ⌜ s ≡ getD (scalarSlots current) place noSlot ⌝ }
 {
     match place {
         ADDRESS => slot_of(3, 1, ADDRESS_RANGE),
@@ -140,24 +190,25 @@ fn scalar_slot(place: usize) -> Slot
         RECIPE => slot_of(7, 1, RECIPE_RANGE),
         PRESET => slot_of(8, 3, PRESET_RANGE),
         RAW => slot_of(11, 4, RAW_RANGE),
-        // NUMBER
-        _ => slot_of(15, 2, NUMBER_RANGE),
+        NUMBER => slot_of(15, 2, NUMBER_RANGE),
+        // ALARMS
+        _ => slot_of(ALARMS_AT, 3, THREE_BYTES),
     }
 }
 
-// The slot of the value of the parameter at a place, with its range.
-fn value_slot(i: usize, range: Range) -> Slot
-    requires { ⌜ (i < parameterCount) × (range ≡ rangeAt i) ⌝ }
-    ensures { λ s. ⌜ s ≡ itemSlot (parametersAt + 5 * i) (alone 4 (value i)) ⌝ }
+// The slot of the value of the parameter at a place, with its range, where the parameters begin at `at`.
+fn value_slot(at: usize, i: usize, range: Range) -> Slot
+    requires { ⌜ (at ≤ parametersAt current) × (i < parameterCount) × (range ≡ rangeAt i) ⌝ }
+    ensures { λ s. ⌜ s ≡ itemSlot (at + 5 * i) (alone 4 (value i)) ⌝ }
 {
-    slot_of(PARAMETERS_AT + 5 * i, 4, range)
+    slot_of(at + 5 * i, 4, range)
 }
 
-fn level_slot(i: usize) -> Slot
-    requires { ⌜ i < parameterCount ⌝ }
-    ensures { λ s. ⌜ s ≡ itemSlot (parametersAt + 5 * i + 4) (alone 1 (level i)) ⌝ }
+fn level_slot(at: usize, i: usize) -> Slot
+    requires { ⌜ (at ≤ parametersAt current) × (i < parameterCount) ⌝ }
+    ensures { λ s. ⌜ s ≡ itemSlot (at + 5 * i + 4) (alone 1 (level i)) ⌝ }
 {
-    slot_of(PARAMETERS_AT + 5 * i + 4, 1, LEVEL_RANGE)
+    slot_of(at + 5 * i + 4, 1, LEVEL_RANGE)
 }
 
 // ---- numbers as bytes, high byte first
@@ -231,8 +282,8 @@ fn put_number(n: u32, slot: Slot, out: &mut [u8])
 
 // The number at a place before the parameters'.
 fn scalar(r: Record, place: usize) -> u32
-    requires { ⌜ place < length scalarItems ⌝ }
-    ensures { λ n. ⌜ n ≡ getD (numbersOf scalarItems r) place 0 ⌝ }
+    requires { ⌜ place < length (scalarsOf current) ⌝ }
+    ensures { λ n. ⌜ n ≡ getD (numbersOf (scalarsOf current) r) place 0 ⌝ }
 {
     let phase = r.phase;
     match place {
@@ -243,15 +294,16 @@ fn scalar(r: Record, place: usize) -> u32
         RECIPE => wide(r.recipe),
         PRESET => r.preset,
         RAW => r.raw,
-        // NUMBER
-        _ => r.number as u32,
+        NUMBER => r.number as u32,
+        // ALARMS: A1 to A4 in two bytes, A5 in the high half of the third
+        _ => r.alarms / 8 % 65536 * 256 + r.alarms % 8 * 16,
     }
 }
 
 // The numbers but the parameters', behind the header.
 fn put_scalars(r: Record, out: &mut [u8])
     requires { ⌜ storedLength current ≤ length (now out) ⌝ }
-    ensures { λ _. ⌜ now (out .exit) ≡ sets (now (out .entry)) headerWidth (packed scalarItems r) ⌝ }
+    ensures { λ _. ⌜ now (out .exit) ≡ sets (now (out .entry)) headerWidth (packed (scalarsOf current) r) ⌝ }
 {
     let mut place = 0;
     while place < SCALARS {
@@ -263,12 +315,16 @@ fn put_scalars(r: Record, out: &mut [u8])
 // The parameters' numbers, behind those.
 fn put_parameters(r: Record, out: &mut [u8])
     requires { ⌜ storedLength current ≤ length (now out) ⌝ }
-    ensures { λ _. ⌜ now (out .exit) ≡ sets (now (out .entry)) parametersAt (packed (parameterItems parameterCount) r) ⌝ }
+    ensures { λ _. ⌜ now (out .exit) ≡ sets (now (out .entry)) (parametersAt current) (packed (parameterItems parameterCount) r) ⌝ }
 {
     let mut i = 0;
     while i < PARAMETERS {
-        put_number(r.values[i], value_slot(i, state::range_at(i)), out);
-        put_number(wide(r.levels[i]), level_slot(i), out);
+        put_number(
+            r.values[i],
+            value_slot(PARAMETERS_AT, i, state::range_at(i)),
+            out,
+        );
+        put_number(wide(r.levels[i]), level_slot(PARAMETERS_AT, i), out);
         i += 1;
     }
 }
@@ -295,13 +351,14 @@ pub fn write(r: Record, out: &mut [u8]) -> Written
 fn read_header(s: &[u8]) -> Header
     ensures { λ h. ⌜ headerAs h ≡ headerOf (now (s .entry)) ⌝ }
 {
-    if s.len() != STORED_LENGTH {
+    let version = version_of(s.len());
+    if version == UNKNOWN {
         return Header::Refused(Refusal::Length);
     }
-    if s[0] != VERSION {
+    if s[0] != version {
         return Header::Refused(Refusal::Version);
     }
-    if number_in(&s[1..3]) as usize != STORED_LENGTH {
+    if number_in(&s[1..3]) as usize != s.len() {
         return Header::Refused(Refusal::LengthField);
     }
     Header::Good
@@ -357,6 +414,7 @@ pub fn low_record() -> Record
         preset: 0,
         raw: 0,
         number: 1,
+        alarms: 0,
         values: values,
         levels: levels,
     }
@@ -372,24 +430,41 @@ fn refused(refusal: Refusal) -> Reading
     }
 }
 
-// Reads the value and the level of the parameter at a place.
-fn read_parameter(s: &[u8], i: usize, range: Range) -> Parameter
-    requires { ⌜ (i < parameterCount) × (length (now s) ≡ storedLength current) × (range ≡ rangeAt i) ⌝ }
-    ensures { λ p. ⌜ p ≡ parameterRead i (now (s .entry)) ⌝ }
+// Reads the number of the alarms, in which no unused bit may be set; 0 where there are no alarms.
+fn read_alarms(s: &[u8], version: u8) -> Number
+    requires { ⌜ parametersAt version ≤ length (now s) ⌝ }
+    ensures { λ n. ⌜ n ≡ alarmsAt version (now (s .entry)) ⌝ }
 {
-    let Number::Inside(value) = read_number(s, value_slot(i, range)) else {
+    if version == WITHOUT_ALARMS {
+        return Number::Inside(0);
+    }
+    let Number::Inside(n) = read_number(s, scalar_slot(ALARMS)) else {
+        return Number::Outside;
+    };
+    if n & UNUSED_BITS != 0 {
+        return Number::Outside;
+    }
+    Number::Inside(n)
+}
+
+// Reads the value and the level of the parameter at a place, where the parameters begin at `at`.
+fn read_parameter(s: &[u8], at: usize, i: usize, range: Range) -> Parameter
+    requires { ⌜ (at ≤ parametersAt current) × (at + 5 * parameterCount ≤ length (now s)) × (i < parameterCount) × (range ≡ rangeAt i) ⌝ }
+    ensures { λ p. ⌜ p ≡ parameterRead at i (now (s .entry)) ⌝ }
+{
+    let Number::Inside(value) = read_number(s, value_slot(at, i, range)) else {
         return Parameter::Outside;
     };
-    let Number::Inside(level) = read_number(s, level_slot(i)) else {
+    let Number::Inside(level) = read_number(s, level_slot(at, i)) else {
         return Parameter::Outside;
     };
     Parameter::Inside(value, level as u8)
 }
 
 // Reads the parameters' numbers into a record: each recipe's have the ranges of the first's.
-fn read_parameters(s: &[u8], before: Record) -> Reading
-    requires { ⌜ length (now s) ≡ storedLength current ⌝ }
-    ensures { λ r. ⌜ (answerAs (r .answer), r .record) ≡ takenFrom parametersAt (parameterItems parameterCount) (now (s .entry)) before ⌝ }
+fn read_parameters(s: &[u8], at: usize, before: Record) -> Reading
+    requires { ⌜ (at ≤ parametersAt current) × (at + 5 * parameterCount ≤ length (now s)) ⌝ }
+    ensures { λ r. ⌜ (answerAs (r .answer), r .record) ≡ takenFrom at (parameterItems parameterCount) (now (s .entry)) before ⌝ }
 {
     let mut filled = before;
     let mut recipe = 0;
@@ -397,7 +472,8 @@ fn read_parameters(s: &[u8], before: Record) -> Reading
         let mut kind = 0;
         while kind < 3 {
             let i = 3 * recipe + kind;
-            let Parameter::Inside(value, level) = read_parameter(s, i, state::range_at(kind)) else {
+            let Parameter::Inside(value, level) = read_parameter(s, at, i, state::range_at(kind))
+            else {
                 return refused(Refusal::Field);
             };
             filled.values[i] = value;
@@ -408,7 +484,7 @@ fn read_parameters(s: &[u8], before: Record) -> Reading
     }
     let mut i = 3 * RECIPES;
     while i < PARAMETERS {
-        let Parameter::Inside(value, level) = read_parameter(s, i, state::range_at(i)) else {
+        let Parameter::Inside(value, level) = read_parameter(s, at, i, state::range_at(i)) else {
             return refused(Refusal::Field);
         };
         filled.values[i] = value;
@@ -423,7 +499,7 @@ fn read_parameters(s: &[u8], before: Record) -> Reading
 
 // Reads the numbers behind the header, one after the other.
 fn read_numbers(s: &[u8]) -> Reading
-    requires { ⌜ length (now s) ≡ storedLength current ⌝ }
+    requires { ⌜ member (versionOf (length (now s))) versions ≡ true ⌝ }
     ensures { λ r. ⌜ (answerAs (r .answer), r .record) ≡ bodyOf (now (s .entry)) ⌝ }
 {
     let Number::Inside(address) = read_number(s, scalar_slot(ADDRESS)) else {
@@ -450,6 +526,10 @@ fn read_numbers(s: &[u8]) -> Reading
     let Number::Inside(number) = read_number(s, scalar_slot(NUMBER)) else {
         return refused(Refusal::Field);
     };
+    let version = version_of(s.len());
+    let Number::Inside(alarms) = read_alarms(s, version) else {
+        return refused(Refusal::Field);
+    };
     let values = [0u32; PARAMETERS];
     let levels = [0u8; PARAMETERS];
     let address = address as u8;
@@ -459,6 +539,7 @@ fn read_numbers(s: &[u8]) -> Reading
     let number = number as u16;
     read_parameters(
         s,
+        parameters_at(version),
         Record {
             address: address,
             access: access,
@@ -472,6 +553,7 @@ fn read_numbers(s: &[u8]) -> Reading
             preset: preset,
             raw: raw,
             number: number,
+            alarms: alarms / 256 * 8 + alarms / 16 % 8,
             values: values,
             levels: levels,
         },

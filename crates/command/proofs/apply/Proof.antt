@@ -32,7 +32,10 @@ apply-spec =
     (λ c κs. search needs)
     (λ c. search needs)
     (λ c. search needs)
+    (λ c. search needs)
+    (λ c κs. search needs)
     returns
+    (λ c. search applied-as)
     (λ c. search applied-as)
     (λ c. search applied-as)
     (λ c. search applied-as)

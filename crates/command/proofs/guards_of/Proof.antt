@@ -21,6 +21,7 @@ guards-of-spec =
     (λ c. search needs)
     (λ c κs. search needs)
     (λ c. search needs)
+    (λ c. search needs)
     (λ c κs. search needs)
     (λ c. search needs)
     (λ c κs. search needs)
@@ -32,6 +33,7 @@ guards-of-spec =
     (λ c κs. search needs)
     (λ c. search (guarding, needs))
     returns-2
+    (λ c. search (guarding, needs))
     (λ c. search (guarding, needs))
     (λ c. search (guarding, needs))
     (λ c. search (guarding, needs))

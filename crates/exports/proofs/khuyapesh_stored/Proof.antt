@@ -8,7 +8,6 @@ pub khuyapesh-stored-spec : {M : Type 1} → statement M
 khuyapesh-stored-spec =
     tie.close
     (tie.spec
-    (λ c. search needs)
     (λ c. search storing)
     (λ c κs. search needs)
     (λ c κs. search needs)

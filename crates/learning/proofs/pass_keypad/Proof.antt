@@ -1,5 +1,5 @@
 -- `learning::pass_keypad` meets its contract: the keypad is tested, or not. Assumes nothing.
-use Rattle.learning.proofs.Refusing.{keypad-passing}
+use Rattle.learning.proofs.Refusing.{guard-passing}
 use Rattle.knowledge.specs.Sets.{maskFrom}
 use borrow.Author.Needs.{needs}
 use Rattle.learning.proofs.pass_keypad.Statement.{statement}
@@ -7,4 +7,4 @@ use Rattle.learning.proofs.pass_keypad.Tie as tie
 
 pub pass-keypad-spec : {M : Type 1} → statement M
 unfolding maskFrom
-pass-keypad-spec = tie.close (tie.spec (λ c κs. search needs) (λ c. search keypad-passing) (λ c. search keypad-passing))
+pass-keypad-spec = tie.close (tie.spec (λ c κs. search needs) (λ c. search guard-passing) (λ c. search guard-passing))

@@ -54,6 +54,10 @@ returns-8 c =
     shown _ _ _ _ _ _ _ (v .before .before .before .before .reading2 .given .1)
     (parameter-laid (text "XV ") _ _ 1 _ _ _ _ _ _ (v .before .code-at2 .ensures) (v .level-at .ensures) (c .before .before .put-two3 .ensures))
 
+returns-9 : tie.Need-returns-9
+unfolding rowOf
+returns-9 c = shown _ _ _ _ _ _ _ (c .before .before .before .before .enum-told7 .given .1) (c .before .before .put-alarms .ensures)
+
 pub put-shown-spec : {M : Type 1} → statement M
 put-shown-spec =
     tie.close
@@ -95,6 +99,8 @@ put-shown-spec =
     (λ c. search needs)
     (λ c κs. search needs)
     (λ c. search needs)
+    (λ c κs. search needs)
+    (λ c. search needs)
     returns
     (λ c. search needs)
     returns-2
@@ -109,4 +115,6 @@ put-shown-spec =
     (λ c. search needs)
     returns-7
     (λ c. search needs)
-    returns-8)
+    returns-8
+    (λ c. search needs)
+    returns-9)

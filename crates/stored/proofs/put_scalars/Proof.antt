@@ -3,24 +3,24 @@ use Prim.Native.Nat.{_-_, _≤_}
 use mathlib.Core.Path.{_≡_, refl}
 use native.Mathlib.Omega.{arith}
 use lib.ListN.{length}
-use Rattle.stored.specs.Layout.{scalarItems}
+use Rattle.stored.specs.Layout.{current, scalarsOf}
 use Rattle.stored.proofs.Writing.{Scalars, scalars-none, scalars-more, scalars-all}
-use Rattle.stored.proofs.Slots.{scalar-ends, stored-177}
+use Rattle.stored.proofs.Slots.{scalar-ends, stored-180}
 use borrow.Author.Needs.{needs}
 use Rattle.stored.proofs.put_scalars.Statement.{statement}
 use Rattle.stored.proofs.put_scalars.Tie as tie
 
 abbrev Inv-loop : tie.InvT-loop
-Inv-loop r out₀ place₀ out place = (place ≤ length scalarItems) × ((length out ≡ length out₀) × Scalars r place out₀ out)
+Inv-loop r out₀ place₀ out place = (place ≤ length (scalarsOf current)) × ((length out ≡ length out₀) × Scalars r place out₀ out)
 
 abbrev μ-loop : tie.MeasureT-loop
-μ-loop r out₀ place₀ out place = length scalarItems - place
+μ-loop r out₀ place₀ out place = length (scalarsOf current) - place
 
 loop-holds : tie.Need-loop-holds Inv-loop μ-loop
 loop-holds c = (omega arith, (refl, search scalars-none))
 
 put-number-requires : tie.Need-put-number-requires Inv-loop μ-loop
-put-number-requires c κs = omega (arith, stored-177, scalar-ends _ _ (c .before .scalar-slot .ensures) (c .before .before .before .loop-test .taken))
+put-number-requires c κs = omega (arith, stored-180, scalar-ends _ _ (c .before .scalar-slot .ensures) (c .before .before .before .loop-test .taken))
 
 loop-again : tie.Need-loop-again Inv-loop μ-loop
 loop-again c = (omega arith, (omega arith, search scalars-more))

@@ -1,5 +1,5 @@
 -- `stored::read` meets its contract: what the header answers, and behind a good one the numbers. Assumes nothing.
-use Rattle.stored.proofs.Taking.{read-refused, good-length, read-good}
+use Rattle.stored.proofs.Taking.{read-refused, good-version, read-good}
 use borrow.Author.Needs.{needs}
 use Rattle.stored.proofs.read.Statement.{statement}
 use Rattle.stored.proofs.read.Tie as tie
@@ -11,7 +11,7 @@ read-spec =
     (λ c κs. search needs)
     (λ c. search needs)
     (λ c. search needs)
-    (λ c κs. search good-length)
+    (λ c κs. search good-version)
     (λ c. search read-good)
     (λ c κs. search needs)
     (λ c. search read-refused))

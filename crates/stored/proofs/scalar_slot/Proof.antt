@@ -7,13 +7,14 @@ use Rattle.stored.proofs.scalar_slot.Tie as tie
 returns-4 : tie.Need-returns-4
 returns-4 c = search (scalar-here 3)
 
-returns-8 : tie.Need-returns-8
-returns-8 c = scalar-last (c .before .match .rest) (c .before .before .pre) (search needs)
+returns-9 : tie.Need-returns-9
+returns-9 c = scalar-last (c .before .match .rest) (c .before .before .pre) (search needs)
 
 pub scalar-slot-spec : {M : Type 1} → statement M
 scalar-slot-spec =
     tie.close
     (tie.spec
+    (λ c κs. search needs)
     (λ c κs. search needs)
     (λ c κs. search needs)
     (λ c κs. search needs)
@@ -29,4 +30,5 @@ scalar-slot-spec =
     (λ c. search (scalar-here 4))
     (λ c. search (scalar-here 5))
     (λ c. search (scalar-here 6))
-    returns-8)
+    (λ c. search (scalar-here 7))
+    returns-9)
