@@ -36,10 +36,6 @@ pub same-as : (a b : Bool) → same a b ≡ true → a ≡ b
 same-as true b e = sym e
 same-as false b e = sym (not-true b e)
 
-pub and-never : (b : Bool) → (b && false) ≡ false
-and-never true = refl
-and-never false = refl
-
 pub and-left : (a b : Bool) → (a && b) ≡ true → a ≡ true
 and-left true b h = refl
 and-left false b h = h

@@ -2,7 +2,7 @@
 -- finds them. Assumes nothing.
 use Prim.Native.Nat.{ℕ, _+_, _-_, _*_, _^_, _≤_, _<_}
 use mathlib.Core.Path.{_≡_, refl, ap, sym, _∙_}
-use mathlib.Core.Bool.{Bool, true, false, not, _&&_, _||_}
+use mathlib.Core.Bool.{Bool, true, false, not, _&&_, _||_, and-false}
 use mathlib.Core.List.{List, [], _∷_, map}
 use native.Mathlib.Nat.{pow-le-pow-right}
 use native.Mathlib.Omega.{arith}
@@ -11,7 +11,7 @@ use lib.ListN.{length, take, drop, getD, length-drop, length-take, List·getD-eq
 use lib.Seq.{take-all, length-take-le, drop-drop}
 use borrow.Author.Tests.{le-leb, lt-leb, lt-ltb, le-ltb, eq-eqb, ne-eqb, eqb-true}
 use Rattle.base.specs.Test.{pick, between, member}
-use Rattle.base.proofs.Tests.{by-test, and-never, between-high}
+use Rattle.base.proofs.Tests.{by-test, between-high}
 use Rattle.text.specs.declared.Digits.{Digits}
 use Rattle.text.specs.declared.Digits.the-variants as digitsRead
 use Rattle.text.specs.Word.{space, allDigits, valueOf, numberFor, equal, oneOf}
@@ -71,7 +71,7 @@ alone-asked k xs q r f known served e h =
 pub words-behind : (ws : List (List ℕ)) (xs : List ℕ) → behindSpace (oneOf ws) xs ≡ oneOf (map (λ (w : List ℕ). space ∷ w) ws) xs
 unfolding equal
 words-behind [] [] = refl
-words-behind [] (x ∷ xs) = and-never (eqb x space)
+words-behind [] (x ∷ xs) = and-false (eqb x space)
 words-behind (w ∷ ws) [] = words-behind ws []
 words-behind (w ∷ ws) (x ∷ xs) = spread (eqb x space) (equal xs w) (oneOf ws xs) ∙ ap (λ (b : Bool). (eqb x space && equal xs w) || b) (words-behind ws (x ∷ xs))
   where
@@ -186,7 +186,7 @@ unfolding numbersOf formed digitsBetween
 parameter-short least most [] h = refl
 parameter-short least most (x ∷ s) h =
     let l : length (take 3 s) < 3 = simp length-take (omega arith) in
-    simp (lt-leb _ _ l, and-never)
+    simp (lt-leb _ _ l, and-false)
 
 parameter-form : (least most : ℕ) (s : List ℕ) → 4 ≤ length s → numbersOf true least most s
     ≡ pick (eqb (getD s 0 0) space && (allDigits (take 3 (drop 1 s)) && formed (numbers false least most) (behind 4 s)))

@@ -17,8 +17,7 @@ use Rattle.state.specs.Field.{Field, access, number, alarms, get, put, position
 use Rattle.state.specs.Valid.{within, valid}
 use Rattle.state.proofs.Fields.{Held, same-field, get-put-same, get-put-other}
 use Rattle.state.proofs.Validity.{valid-tell}
-use Rattle.state.proofs.Alarms.{lasting-within}
-use Rattle.state.proofs.Kept.{field-in, put-kept, next-in}
+use Rattle.state.proofs.Kept.{put-kept, next-in, lasting-in, reset-kept}
 use Rattle.state.specs.Event.{nextNumber}
 use Rattle.command.specs.Commands.{Change, becomes, nextBatch, resetAlarms, applied}
 use Rattle.command.specs.Refusals.{Row, byText, applies, rowNumber}
@@ -108,10 +107,6 @@ Fitting (becomes f n ∷ cs) = Held f × (position access < position f) × (with
 Fitting (nextBatch ∷ cs) = Fitting cs
 Fitting (resetAlarms ∷ cs) = Fitting cs
 
--- what AR leaves of a valid record's alarms are alarms
-lasting-in : (s : Record) → valid s ≡ true → within (fieldRange alarms) (lasting (get alarms s)) ≡ true
-lasting-in s w = lasting-within (get alarms s) (field-in s w alarms (omega arith))
-
 module _ (r : Record) (v : valid r ≡ true) where
   -- a valid record stays valid
   pub applied-valid : (cs : List Change) → Fitting cs → valid (applied cs r) ≡ true
@@ -119,7 +114,7 @@ module _ (r : Record) (v : valid r ≡ true) where
   applied-valid [] f = v
   applied-valid (becomes g n ∷ cs) f = put-kept (applied cs r) (applied-valid cs (f .3)) g n (f .2)
   applied-valid (nextBatch ∷ cs) f = let w = applied-valid cs f in put-kept (applied cs r) w number (nextNumber (get number (applied cs r))) (next-in (applied cs r) w)
-  applied-valid (resetAlarms ∷ cs) f = let w = applied-valid cs f in put-kept (applied cs r) w alarms (lasting (get alarms (applied cs r))) (lasting-in (applied cs r) w)
+  applied-valid (resetAlarms ∷ cs) f = reset-kept (applied cs r) (applied-valid cs f)
 
   -- a number put into a field shows there, and no other field shows it
   put-reads : (s : Record) → valid s ≡ true → (f g : Field) (n : ℕ) → Held f → within (fieldRange f) n ≡ true

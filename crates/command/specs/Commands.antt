@@ -10,9 +10,8 @@ use Rattle.state.specs.declared.Place.{Place}
 use Rattle.state.specs.declared.Place.the-variants.{At, Nothing}
 use Rattle.base.specs.Test.{pick, between}
 use Rattle.state.specs.Parameter.{parameterCount, placeOf, codeAt}
-use Rattle.state.specs.Alarm.{lasting}
 use Rattle.state.specs.Field.{Field, phase, changed, reset, recipe, preset, raw, number, alarms, value, level, get, put, on, off}
-use Rattle.state.specs.Event.{idle, set, running, stopped, nextNumber}
+use Rattle.state.specs.Event.{idle, set, running, stopped, nextNumber, alarmsReset}
 use Rattle.text.specs.Word.{space, digits, allDigits, valueOf, equal, oneOf}
 use Rattle.command.specs.Status.{statusCharacters, alarmCharacters, statusCodes, codesOn}
 
@@ -200,7 +199,7 @@ f ≔ n = becomes f n
 abbrev pub afterChange : Change → Record → Record
 afterChange (becomes f n) r = put f n r
 afterChange nextBatch r = put number (nextNumber (get number r)) r
-afterChange resetAlarms r = put alarms (lasting (get alarms r)) r
+afterChange resetAlarms r = alarmsReset r
 
 unfoldable pub applied : List Change → Record → Record
 applied [] r = r

@@ -22,10 +22,15 @@ use Rattle.knowledge.proofs.Bits.{bit-and, bit-zero, bit-mask, bit-beyo
 use Rattle.knowledge.proofs.Alarms.{Uniform, alarms-passed, no-alarms, some-alarms, any-alarms, just-in}
 
 -- ---- the kinds of fields
-isSeveral : Kind → Bool
+abbrev pub isSeveral : Kind → Bool
 isSeveral several = true
 isSeveral single = false
 isSeveral alarmed = false
+
+pub is-several : (kind : Kind) → isSeveral kind ≡ true → kind ≡ several
+is-several several h = refl
+is-several single h = absurd (false≢true h)
+is-several alarmed h = absurd (false≢true h)
 
 -- a field with a mask holds small numbers, and stands behind the address and the access
 pub record Small (f : Field) : Type 0 where
@@ -36,7 +41,6 @@ abbrev limited : Field → Bool
 limited f = not (isSeveral (kindOf f)) || (leb (fieldRange f .high) recipes && ltb (position access) (position f))
 
 pub small : (f : Field) → kindOf f ≡ several → Small f
-unfolding isSeveral
 small =
     by-fields (λ (f : Field). kindOf f ≡ several → Small f) (λ n l e. told (getD scalarFields n address) e (by-list limited (λ f. true) refl n))
     (λ i e. absurd (false≢true (ap isSeveral e))) (λ i e. omega arith)

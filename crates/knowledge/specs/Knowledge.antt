@@ -10,9 +10,8 @@ use Rattle.state.specs.declared.Range.{Range}
 use Rattle.state.specs.Parameter.{parameterCount}
 use Rattle.state.specs.Field.{Field, address, access, number, alarms, position, fieldRange, fieldsFor}
 use Rattle.state.specs.Valid.{within}
-use Rattle.state.specs.Event.{nextNumber}
 use Rattle.knowledge.specs.declared.Knowledge.{Knowledge}
-use Rattle.knowledge.specs.Sets.{any, alone, maskIn, only, has, anyNumber, resetCode}
+use Rattle.knowledge.specs.Sets.{any, alone, maskIn, only, has, nextCode, resetCode}
 
 -- the code at a position, 0 beyond the last
 unfoldable pub codeAt : ℕ → Knowledge → ℕ
@@ -43,17 +42,20 @@ holding f n k = told (position f) (fieldRange f) n k
 unfoldable pub settled : Field → ℕ → Knowledge → Knowledge
 settled f n k = pick (has f (codeAt (position f) k) n) (recoded (position f) (alone f n) k) (dead k)
 
--- ---- moves: what a set becomes
+-- ---- moves: what a set becomes, by its code
+abbrev pub stepped : Field → (ℕ → ℕ) → Knowledge → Knowledge
+stepped f code k = recoded (position f) (code (codeAt (position f) k)) k
+
 unfoldable pub becoming : Field → ℕ → Knowledge → Knowledge
-becoming f n k = recoded (position f) (alone f n) k
+becoming f n k = stepped f (λ c. alone f n) k
 
 -- the batch number goes on by one
 unfoldable pub advanced : Knowledge → Knowledge
-advanced k = recoded (position number) (pick (eqb (codeAt (position number) k) anyNumber) anyNumber (nextNumber (codeAt (position number) k))) k
+advanced k = stepped number (λ c. nextCode c) k
 
 -- AR: the lasting alarms stay
 unfoldable pub alarmsLeft : Knowledge → Knowledge
-alarmsLeft k = recoded (position alarms) (resetCode (codeAt (position alarms) k)) k
+alarmsLeft k = stepped alarms (λ c. resetCode c) k
 
 -- ---- nothing is known
 abbrev pub unknown : Knowledge

@@ -8,6 +8,7 @@ use Rattle.state.specs.Parameter.{recipes}
 use Rattle.state.specs.Alarm.{noAlarm, allAlarms, lasting}
 use Rattle.state.specs.Field.{Field, address, access, phase, keypad, flow, changed, reset, powerfail, recipe, preset, raw, number, alarms, value, level, fieldRange, flagNumber}
 use Rattle.state.specs.Valid.{within}
+use Rattle.state.specs.Event.{nextNumber}
 
 -- several: any of some small numbers; single: any, or one; alarmed: one, or any that have just such alarms on
 pub data Kind : Type 0 where
@@ -50,6 +51,10 @@ anyNumber = 0xffffffff
 
 abbrev pub only : ℕ → ℕ → Bool
 only c n = eqb c anyNumber || eqb c n
+
+-- the batch numbers after those of a set
+abbrev pub nextCode : ℕ → ℕ
+nextCode c = pick (eqb c anyNumber) anyNumber (nextNumber c)
 
 -- ---- alarmed: in the lowest bit whether none may be on; above it what may be on if some are: the number of just these (0: nothing), the
 -- first number that no alarms have for any of the lasting, and each greater one for any

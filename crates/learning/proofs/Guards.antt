@@ -6,7 +6,7 @@ use mathlib.Core.Path.{_≡_, refl, sym, ap, subst, _∙_}
 use mathlib.Core.List.{List, [], _∷_}
 use native.Mathlib.Omega.{arith}
 use lib.Dec.{eqb}
-use borrow.Author.Tests.{eq-eqb, ne-eqb, eqb-true, eqb-false}
+use borrow.Author.Tests.{eq-eqb, ne-eqb, eqb-true, eqb-false, not-true}
 use Rattle.base.specs.Test.{pick, member}
 use Rattle.base.proofs.Tests.{by-test, and-yes, and-left, and-right}
 use Rattle.state.specs.declared.Record.{Record}
@@ -53,10 +53,6 @@ to-pick Q true x y f g = f refl
 to-pick Q false x y f g = g refl
 
 -- ---- the guards' verdict, by the first guard
-not-true : (b : Bool) → not b ≡ true → b ≡ false
-not-true true h = sym h
-not-true false h = refl
-
 pub same-number : (m n : ℕ) → NO m ≡ NO n → m ≡ n
 same-number m n e = cc
 

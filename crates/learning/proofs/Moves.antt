@@ -5,15 +5,15 @@ use mathlib.Core.Bool.{true}
 use mathlib.Core.Path.{_≡_, refl, ap, _∙_}
 use mathlib.Core.List.{List, [], _∷_}
 use Rattle.state.specs.declared.Record.{Record}
-use Rattle.state.specs.Field.{Field, access, position, fieldRange, put}
+use Rattle.state.specs.Field.{Field, access, position, fieldRange, get, put}
 use Rattle.state.specs.Valid.{within}
 use Rattle.state.proofs.Fields.{Held}
 use Rattle.command.specs.Commands.{Change, becomes, nextBatch, resetAlarms, afterChange, applied}
 use Rattle.command.proofs.Tables.{Fitting}
 use Rattle.knowledge.specs.declared.Knowledge.{Knowledge}
-use Rattle.knowledge.specs.Knowledge.{becoming}
+use Rattle.knowledge.specs.Knowledge.{stepped, becoming, advanced, alarmsLeft}
 use Rattle.knowledge.proofs.Possible.{Possible, Kept}
-use Rattle.knowledge.proofs.Move.{becoming-onward, becoming-back, becoming-kept, advanced-onward, advanced-back, advanced-kept, alarms-left-onward, alarms-left-back, alarms-left-kept}
+use Rattle.knowledge.proofs.Move.{Stepping, stepped-onward, stepped-back, stepped-kept, become-stepping, next-stepping, reset-stepping}
 use Rattle.learning.specs.Learn.{movedBy, moved}
 
 -- ---- a move of knowledge that follows a change of the record: what is possible afterwards is the image of what was
@@ -41,30 +41,26 @@ _then_ {first} {second} {one} {two} f g =
       keeps = λ k kept. g .keeps (first k) (f .keeps k kept);
     }
 
--- ---- one change
-become : (f : Field) (n : ℕ) → Held f → position access < position f → within (fieldRange f) n ≡ true → Follows (becoming f n) (put f n)
-become f n held beyond w =
+-- ---- one change: a field's number steps
+step : {f : Field} {number code : ℕ → ℕ} → Stepping f number code → Follows (stepped f code) (λ r. put f (number (get f r)) r)
+step s =
     record {
-      onward = λ k r kept t. becoming-onward k r f n (kept .full) held w t;
-      back = λ k s kept t. becoming-back k s f n kept held w t;
-      keeps = λ k kept. becoming-kept k f n kept held beyond w;
+      onward = λ k r kept t. stepped-onward s k r (kept .full) t;
+      back = λ k q kept t. stepped-back s k q kept t;
+      keeps = λ k kept. stepped-kept s k kept;
     }
+
+become : (f : Field) (n : ℕ) → Held f → position access < position f → within (fieldRange f) n ≡ true → Follows (becoming f n) (put f n)
+unfolding becoming
+become f n held beyond w = step (become-stepping f n held beyond w)
 
 advance : Follows (movedBy nextBatch) (afterChange nextBatch)
-advance =
-    record {
-      onward = λ k r kept t. advanced-onward k r (kept .full) t;
-      back = λ k s kept t. advanced-back k s kept t;
-      keeps = λ k kept. advanced-kept k kept;
-    }
+unfolding advanced
+advance = step next-stepping
 
 reset : Follows (movedBy resetAlarms) (afterChange resetAlarms)
-reset =
-    record {
-      onward = λ k r kept t. alarms-left-onward k r (kept .full) t;
-      back = λ k s kept t. alarms-left-back k s kept t;
-      keeps = λ k kept. alarms-left-kept k kept;
-    }
+unfolding alarmsLeft
+reset = step reset-stepping
 
 -- ---- changes
 pub follows : (cs : List Change) → Fitting cs → Follows (moved cs) (applied cs)

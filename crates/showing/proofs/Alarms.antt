@@ -12,8 +12,9 @@ use borrow.Author.Tests.{not-true, not-false}
 use Rattle.base.specs.Test.{unless, between, allBetween}
 use Rattle.base.proofs.Tests.{by-test, and-left, and-right, between-yes, between-no, between-low, between-high}
 use Rattle.state.specs.Alarm.{total, characterValues, characterWidths}
-use Rattle.state.specs.Field.{alarms, get, fieldRange}
+use Rattle.state.specs.Field.{alarms, get, fieldRange, listed}
 use Rattle.state.proofs.Kept.{field-in}
+use Rattle.state.proofs.Whole.{listed-same}
 use Rattle.text.specs.declared.Digits.{Digits}
 use Rattle.text.specs.declared.Digits.the-variants.{Number, Nothing}
 use Rattle.command.specs.Status.{alarmCharacters}
@@ -93,13 +94,8 @@ abbrev firstFive : List ℕ → List ℕ
 firstFive s = getD s 0 0 ∷ getD s 1 0 ∷ getD s 2 0 ∷ getD s 3 0 ∷ getD s 4 0 ∷ []
 
 five : (s : List ℕ) → length s ≡ 5 → firstFive s ≡ s
-five [] e = absurd (omega arith)
-five (x ∷ []) e = absurd (omega arith)
-five (x ∷ y ∷ []) e = absurd (omega arith)
-five (x ∷ y ∷ z ∷ []) e = absurd (omega arith)
-five (x ∷ y ∷ z ∷ u ∷ []) e = absurd (omega arith)
-five (x ∷ y ∷ z ∷ u ∷ v ∷ []) e = refl
-five (x ∷ y ∷ z ∷ u ∷ v ∷ w ∷ s) e = absurd (omega arith)
+unfolding listed
+five s e = listed-same s 5 e
 
 -- five tests, one after the other, the last of them once wider
 abbrev inTurn : Bool → Bool → Bool → Bool → Bool → Digits → Digits

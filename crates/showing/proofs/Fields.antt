@@ -24,7 +24,7 @@ use Rattle.knowledge.specs.declared.Knowledge.{Knowledge}
 use Rattle.knowledge.specs.Sets.{Kind, several, single, alarmed, kindOf, maskBy}
 use Rattle.knowledge.specs.Knowledge.{dead, restricted, passing}
 use Rattle.knowledge.proofs.Possible.{Possible, Kept}
-use Rattle.knowledge.proofs.Codes.{Testable, small-testable, testable-not, alarm-testable}
+use Rattle.knowledge.proofs.Codes.{isSeveral, is-several, Testable, small-testable, testable-not, alarm-testable}
 use Rattle.knowledge.proofs.Cut.{dead-none, dead-kept, passing-told, passing-left, passing-kept, holding-told, holding-left, holding-kept, settled-told, settled-left, settled-kept}
 use Rattle.showing.specs.Heard.{numberBehind}
 use Rattle.showing.specs.Shown.{testShown, numberBy, numberShown}
@@ -72,16 +72,6 @@ word-shown w b k kept =
     (λ r v e. ap (λ (x : List ℕ). equal x w) (sym e) ∙ equal-same w)
 
 -- ---- a test
-abbrev isSeveral : Kind → Bool
-isSeveral several = true
-isSeveral single = false
-isSeveral alarmed = false
-
-is-several : (kind : Kind) → isSeveral kind ≡ true → kind ≡ several
-is-several several h = refl
-is-several single h = absurd (false≢true h)
-is-several alarmed h = absurd (false≢true h)
-
 -- a field of the record that may hold one of several small numbers
 abbrev pub isSmall : Field → Bool
 isSmall f = ltb (position f) (position (value parameterCount)) && isSeveral (kindOf f)

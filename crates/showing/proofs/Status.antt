@@ -13,7 +13,8 @@ use borrow.Author.Tests.{eq-eqb, ne-eqb, not-true, not-false, eqb-true}
 use Rattle.base.specs.Test.{pick}
 use Rattle.base.proofs.Tests.{by-test, same, same-as, and-right, allBelow, holds-below, and-yes, and-left}
 use Rattle.state.specs.declared.Record.{Record}
-use Rattle.state.specs.Field.{flagNumber}
+use Rattle.state.specs.Field.{flagNumber, listed}
+use Rattle.state.proofs.Whole.{listed-same}
 use Rattle.text.specs.Word.{equal}
 use Rattle.command.specs.Status.{Bit, first, second, third, fourth, characters, passes, weightIn, statusCharacters}
 use Rattle.knowledge.specs.declared.Knowledge.{Knowledge}
@@ -72,14 +73,8 @@ abbrev firstSix : List ℕ → List ℕ
 firstSix s = getD s 0 0 ∷ getD s 1 0 ∷ getD s 2 0 ∷ getD s 3 0 ∷ getD s 4 0 ∷ getD s 5 0 ∷ []
 
 six : (s : List ℕ) → length s ≡ 6 → firstSix s ≡ s
-six [] e = absurd (omega arith)
-six (x ∷ []) e = absurd (omega arith)
-six (x ∷ y ∷ []) e = absurd (omega arith)
-six (x ∷ y ∷ z ∷ []) e = absurd (omega arith)
-six (x ∷ y ∷ z ∷ u ∷ []) e = absurd (omega arith)
-six (x ∷ y ∷ z ∷ u ∷ v ∷ []) e = absurd (omega arith)
-six (x ∷ y ∷ z ∷ u ∷ v ∷ w ∷ []) e = refl
-six (x ∷ y ∷ z ∷ u ∷ v ∷ w ∷ t ∷ s) e = absurd (omega arith)
+unfolding listed
+six s e = listed-same s 6 e
 
 module _ (s : List ℕ) (k r : Knowledge) where
   pub status-length : (length s ≡ 6 → ⊥) → r ≡ dead k → r ≡ statusShown s k

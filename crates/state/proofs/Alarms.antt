@@ -1,14 +1,14 @@
 -- The alarms in one number: its bits are the alarms one by one, raising and clearing touch one of them, and AR switches off six. By the
--- bits of a number, and the parts of the mask of the lasting. Assumes nothing.
+-- bits of a number. Assumes nothing.
 use Prim.Native.Nat.{ℕ, zero, suc, _+_, _-_, _*_, _/_, _%_, _^_, _≤_, _<_}
 use mathlib.Core.Bool.{Bool, true, false, not, _&&_, _||_}
 use mathlib.Core.Path.{_≡_, refl, sym, ap, ap₂, subst, _∙_}
 use mathlib.Core.List.{map}
 use native.Mathlib.Omega.{arith}
-use lib.Bits.{bitAnd, bitOr, and-shr, or-shr, and-mod, or-mod, and-le-l, and-le-r, or-lt, and-block, and-mask}
+use lib.Bits.{bitAnd, bitOr, and-step, and-zero-l, and-shr, or-shr, and-mod, or-mod, and-le-l, and-le-r, or-lt}
 use lib.Dec.{eqb, leb}
-use borrow.Author.Tests.{leb-true, not-false}
-use Rattle.base.specs.Test.{member}
+use borrow.Author.Tests.{leb-true, not-true, not-false}
+use Rattle.base.specs.Test.{pick, member}
 use Rattle.text.specs.Word.{equal}
 use Rattle.base.proofs.Tests.{same, same-as, between-yes, between-low, between-high, allBelow, holds-below}
 use Rattle.state.specs.Alarm.{alarmCount, numberFrom, alarmNumber, resettable, weightOf, weights, noAlarm, allAlarms, alarmOn, isAlarm, raised, cleared, lastingAlarms, lasting}
@@ -18,28 +18,10 @@ use Rattle.state.specs.Valid.{within}
 pub all-alarms : allAlarms ≡ 2 ^ alarmCount - 1
 all-alarms = refl
 
--- ---- what AR leaves, by the parts of its mask: A1 and A2, the high half of A4, and A5
+-- ---- what AR leaves
 pub lasting-mask : lastingAlarms ≡ 0x7f867
 unfolding lastingAlarms weights numberFrom equal
 lasting-mask = refl
-
-middle-same : (n : ℕ) → n % 2048 / 32 % 4 ≡ n / 32 % 4
-middle-same n = omega arith
-
-last-same : (n : ℕ) → n % 2048 % 32 % 8 ≡ n % 8
-last-same n = omega arith
-
-pub lasting-parts : (n : ℕ) → lasting n ≡ n / 2048 % 256 * 2048 + (n / 32 % 4 * 32 + n % 8)
-lasting-parts n =
-    let high : n ≡ n / 2048 * 2048 + n % 2048 = omega arith in
-    let middle : n % 2048 ≡ n % 2048 / 32 * 32 + n % 2048 % 32 = omega arith in
-    ap (bitAnd n) lasting-mask
-    ∙ (ap (λ (m : ℕ). bitAnd m 0x7f867) high
-    ∙ (and-block 11 (n / 2048) 255 (n % 2048) 0x67 (omega arith) (omega arith)
-    ∙ ap₂ (λ (x y : ℕ). x * 2048 + y) (and-mask (n / 2048) 8)
-    (ap (λ (m : ℕ). bitAnd m 0x67) middle
-    ∙ (and-block 5 (n % 2048 / 32) 3 (n % 2048 % 32) 7 (omega arith) (omega arith)
-    ∙ ap₂ (λ (x y : ℕ). x * 32 + y) (and-mask (n % 2048 / 32) 2 ∙ middle-same n) (and-mask (n % 2048 % 32) 3 ∙ last-same n)))))
 
 pub mask-limit : (n : ℕ) → bitAnd n 0x7f867 ≤ allAlarms
 mask-limit n = let h = and-le-r n 0x7f867 in omega arith
@@ -47,23 +29,24 @@ mask-limit n = let h = and-le-r n 0x7f867 in omega arith
 pub lasting-limit : (n : ℕ) → lasting n ≤ allAlarms
 lasting-limit n = subst (λ (m : ℕ). bitAnd n m ≤ allAlarms) (sym lasting-mask) (mask-limit n)
 
+-- a mask laid over once more leaves the same: bit by bit, of numbers up to k
+and-again : (k n m : ℕ) → n ≤ k → bitAnd (bitAnd n m) m ≡ bitAnd n m
+and-again zero n m h =
+    let z : n ≡ 0 = omega arith in
+    subst (λ (x : ℕ). bitAnd (bitAnd x m) m ≡ bitAnd x m) (sym z) (ap (λ (x : ℕ). bitAnd x m) (and-zero-l m))
+and-again (suc k) n m h =
+    let half : bitAnd n m / 2 ≡ bitAnd (n / 2) (m / 2) = and-shr n m 1 in
+    let rest = ap (λ (x : ℕ). bitAnd x (m / 2)) half ∙ and-again k (n / 2) (m / 2) (omega arith) in
+    let outer = and-step (bitAnd n m) m in
+    let inner = and-step n m in
+    omega arith
+
 -- it is some of what was on, and AR again changes nothing
 pub lasting-below : (n : ℕ) → lasting n ≤ n
 lasting-below n = and-le-l n lastingAlarms
 
 pub lasting-again : (n : ℕ) → lasting (lasting n) ≡ lasting n
-lasting-again n =
-    ap lasting (lasting-parts n)
-    ∙ (lasting-parts (n / 2048 % 256 * 2048 + (n / 32 % 4 * 32 + n % 8))
-    ∙ (parts-again (n / 2048 % 256) (n / 32 % 4) (n % 8) (omega arith) (omega arith) (omega arith) ∙ sym (lasting-parts n)))
-  where
-    parts-again : (a b c : ℕ) → a < 256 → b < 4 → c < 8
-        → (a * 2048 + (b * 32 + c)) / 2048 % 256 * 2048 + ((a * 2048 + (b * 32 + c)) / 32 % 4 * 32 + (a * 2048 + (b * 32 + c)) % 8) ≡ a * 2048 + (b * 32 + c)
-    parts-again a b c h k l =
-        let x : (a * 2048 + (b * 32 + c)) / 2048 % 256 ≡ a = omega arith in
-        let y : (a * 2048 + (b * 32 + c)) / 32 % 4 ≡ b = omega arith in
-        let z : (a * 2048 + (b * 32 + c)) % 8 ≡ c = omega arith in
-        rw (x, y, z) refl
+lasting-again n = and-again n n lastingAlarms (omega arith)
 
 pub lasting-within : (n : ℕ) → within (fieldRange alarms) n ≡ true → within (fieldRange alarms) (lasting n) ≡ true
 lasting-within n h =
@@ -72,22 +55,28 @@ lasting-within n h =
     between-yes noAlarm allAlarms (lasting n) (omega arith) (omega arith)
 
 -- ---- raising and clearing stay in the range
-pub weight-below : (k : ℕ) → 1 ≤ k → k ≤ alarmCount → weightOf k ≤ allAlarms
+weight-below : (k : ℕ) → 1 ≤ k → k ≤ alarmCount → weightOf k ≤ allAlarms
 weight-below k l h =
     let c : alarmCount - k < alarmCount = omega arith in
     leb-true _ _ (holds-below (λ (j : ℕ). leb (2 ^ j) allAlarms) alarmCount refl (alarmCount - k) c)
 
--- 1 shifted as far as the last alarm is away, as the code has it
-pub shifted-weight : (k : ℕ) → 1 ≤ k → k ≤ alarmCount → ((1 * 2 ^ (alarmCount - k)) % 2 ^ 32 ≡ weightOf k) × ((1 * 2 ^ (alarmCount - k)) % 2 ^ 32 ≤ allAlarms)
-shifted-weight k l h =
-    let w = weight-below k l h in
-    let e : (1 * 2 ^ (alarmCount - k)) % 2 ^ 32 ≡ weightOf k = omega arith in
-    (e, omega arith)
+-- the bit of a number, if it is an alarm's: 1 shifted as far as the last alarm is away, as the code has it
+module _ (k : ℕ) (t : Bool) (e : t ≡ isAlarm k) where
+  pub no-bit : not t ≡ true → (0 ≡ pick (isAlarm k) (weightOf k) 0) × (0 ≤ allAlarms)
+  no-bit o = (simp (sym e ∙ not-true t o), omega arith)
 
-pub alarm-numbered : (k : ℕ) (t : Bool) → t ≡ isAlarm k → not t ≡ false → (1 ≤ k) × (k ≤ alarmCount)
-alarm-numbered k t e i =
-    let a : isAlarm k ≡ true = sym e ∙ not-false t i in
-    (between-low 1 alarmCount k a, between-high 1 alarmCount k a)
+  module _ (i : not t ≡ false) where
+    numbered : isAlarm k ≡ true
+    numbered = sym e ∙ not-false t i
+
+    pub number-high : k ≤ alarmCount
+    number-high = between-high 1 alarmCount k numbered
+
+    pub own-bit : ((1 * 2 ^ (alarmCount - k)) % 2 ^ 32 ≡ pick (isAlarm k) (weightOf k) 0) × ((1 * 2 ^ (alarmCount - k)) % 2 ^ 32 ≤ allAlarms)
+    own-bit =
+        let w = weight-below k (between-low 1 alarmCount k numbered) number-high in
+        let s : (1 * 2 ^ (alarmCount - k)) % 2 ^ 32 ≡ weightOf k = omega arith in
+        (s ∙ simp numbered, omega arith)
 
 raised-below : (k n : ℕ) → 1 ≤ k → k ≤ alarmCount → n ≤ allAlarms → raised k n ≤ allAlarms
 raised-below k n l h m = let w = weight-below k l h in let o = or-lt alarmCount n (weightOf k) (omega arith) (omega arith) in omega arith

@@ -1,19 +1,22 @@
 -- What the code's returns give is what the definitions of the panel's events say; and a valid record stays valid. Assumes nothing.
 use Prim.Native.Nat.{ℕ, _+_, _-_, _%_, _≤_, _<_}
 use mathlib.Core.Bool.{Bool, true, false, not, _||_}
-use mathlib.Core.Path.{_≡_, sym, ap, _∙_}
-use lib.Bits.{bitAnd, bitOr}
+use mathlib.Core.Path.{_≡_, refl, sym, ap, _∙_}
+use lib.Bits.{bitAnd, bitOr, or-zero-r, and-mask}
 use lib.Dec.{eqb}
 use borrow.Author.Tests.{eq-eqb, ne-eqb, le-leb, lt-leb, not-true, not-false}
+use native.Mathlib.Omega.{arith}
+use Rattle.base.specs.Test.{pick}
+use Rattle.base.proofs.Tests.{by-test}
 use Rattle.state.specs.declared.Phase.{Phase}
 use Rattle.state.specs.declared.Phase.the-variants.{Idle, Running}
 use Rattle.state.specs.declared.Event.{Event}
 use Rattle.state.specs.declared.Event.the-variants.{Pulses, KeypadOn, PowerBack, AlarmOn, AlarmOff}
 use Rattle.state.specs.declared.Record.{Record}
-use Rattle.state.specs.Alarm.{isAlarm, weightOf, allAlarms, lasting}
+use Rattle.state.specs.Alarm.{alarmCount, isAlarm, weightOf, allAlarms, raised, cleared, lasting}
 use Rattle.state.specs.Field.{phase, keypad, flow, reset, powerfail, preset, raw, number, alarms, put, fieldRange, phaseNumber, on, off}
 use Rattle.state.specs.Valid.{valid}
-use Rattle.state.specs.Event.{idle, set, running, stopped, done, pulses, powerBack, keypadOn, alarmRaised, alarmCleared, happened, after, nextNumber, batchSet, alarmsReset}
+use Rattle.state.specs.Event.{idle, set, running, stopped, done, pulses, powerBack, keypadOn, alarmChanged, happened, after, nextNumber, batchSet, alarmsReset}
 use Rattle.state.proofs.Validity.{valid-tell}
 
 module _ (r : Record) (b : Bool) (v : b ≡ valid r) where
@@ -68,24 +71,36 @@ module _ (r : Record) (b : Bool) (v : b ≡ valid r) where
       unfolding powerBack put
       power-stopped s t e = after-valid PowerBack s (e ∙ simp (at ∙ t))
 
-    -- ---- an alarm, by whether the number is one's
-    module _ (k : ℕ) (t : Bool) (known : t ≡ isAlarm k) where
-      pub no-alarm-raised : not t ≡ true → r ≡ after (AlarmOn k) r
-      unfolding alarmRaised
-      no-alarm-raised o = after-valid (AlarmOn k) r (simp (sym known ∙ not-true t o))
+-- ---- an alarm: m are the alarms afterwards, those of the change if the number is an alarm's
+alarms-with : (r s : Record) (k m : ℕ) (change : ℕ → ℕ) (e : Event) → happened e r ≡ alarmChanged k change r
+    → (isAlarm k ≡ true → m ≡ change (r .alarms)) → (isAlarm k ≡ false → valid r ≡ true → m ≡ r .alarms) → s ≡ pick (valid r) (put alarms m r) r → s ≡ after e r
+unfolding after alarmChanged put
+alarms-with r s k m change e is new same f =
+    by-test (valid r)
+    (λ v.
+    let stored : s ≡ put alarms m r = f ∙ simp v in
+    by-test (isAlarm k) (λ a. stored ∙ (ap (λ (n : ℕ). put alarms n r) (new a) ∙ sym (simp v (is ∙ simp a))))
+    (λ a. stored ∙ (ap (λ (n : ℕ). put alarms n r) (same a v) ∙ sym (simp v (is ∙ simp a)))))
+    (λ v. f ∙ simp v)
 
-      pub no-alarm-cleared : not t ≡ true → r ≡ after (AlarmOff k) r
-      unfolding alarmCleared
-      no-alarm-cleared o = after-valid (AlarmOff k) r (simp (sym known ∙ not-true t o))
+module _ (r s : Record) (k w : ℕ) (bit : w ≡ pick (isAlarm k) (weightOf k) 0) where
+  own : isAlarm k ≡ true → w ≡ weightOf k
+  own a = bit ∙ simp a
 
-      module _ (w : ℕ) (weight : w ≡ weightOf k) (i : not t ≡ false) where
-        pub alarm-raised : (s : Record) → s ≡ put alarms (bitOr (r .alarms) w) r → s ≡ after (AlarmOn k) r
-        unfolding alarmRaised
-        alarm-raised s e = after-valid (AlarmOn k) s (e ∙ simp (weight, sym known ∙ not-false t i))
+  none : isAlarm k ≡ false → w ≡ 0
+  none a = bit ∙ simp a
 
-        pub alarm-cleared : (s : Record) → s ≡ put alarms (bitAnd (r .alarms) (allAlarms - w)) r → s ≡ after (AlarmOff k) r
-        unfolding alarmCleared
-        alarm-cleared s e = after-valid (AlarmOff k) s (e ∙ simp (weight, sym known ∙ not-false t i))
+  pub alarm-raised : s ≡ pick (valid r) (put alarms (bitOr (r .alarms) w) r) r → s ≡ after (AlarmOn k) r
+  alarm-raised =
+      alarms-with r s k (bitOr (r .alarms) w) (λ n. raised k n) (AlarmOn k) refl (λ a. ap (bitOr (r .alarms)) (own a))
+      (λ a v. ap (bitOr (r .alarms)) (none a) ∙ or-zero-r (r .alarms))
+
+  pub alarm-cleared : s ≡ pick (valid r) (put alarms (bitAnd (r .alarms) (allAlarms - w)) r) r → s ≡ after (AlarmOff k) r
+  alarm-cleared =
+      alarms-with r s k (bitAnd (r .alarms) (allAlarms - w)) (λ n. cleared k n) (AlarmOff k) refl (λ a. ap (λ (x : ℕ). bitAnd (r .alarms) (allAlarms - x)) (own a))
+      (λ a v.
+      let h = valid-tell r v .scalars .alarms-high in
+      ap (λ (x : ℕ). bitAnd (r .alarms) (allAlarms - x)) (none a) ∙ (and-mask (r .alarms) alarmCount ∙ omega arith))
 
 -- the raw total of a valid record leaves room for any count of pulses
 pub raw-limit : (r : Record) (b : Bool) → b ≡ valid r → not b ≡ false → r .raw ≤ fieldRange raw .high

@@ -16,7 +16,7 @@ use Rattle.state.specs.Parameter.{parameterCount}
 use Rattle.state.specs.Alarm.{isAlarm, raised, cleared, lasting}
 use Rattle.state.specs.Field.{Field, address, phase, keypad, flow, reset, powerfail, preset, raw, number, alarms, value, level, get, put, position, fieldRange, scalarFields, fieldsFor, parameterFields, on, off}
 use Rattle.state.specs.Valid.{within, allIn, fullLength, valid}
-use Rattle.state.specs.Event.{set, running, stopped, done, idle, inPhase, pulses, finished, powerBack, keypadOn, alarmRaised, alarmCleared, happened, after, nextNumber, batchSet, started, halted, ended, alarmsReset}
+use Rattle.state.specs.Event.{set, running, stopped, done, idle, inPhase, pulses, finished, powerBack, keypadOn, alarmChanged, happened, after, nextNumber, batchSet, started, halted, ended, alarmsReset}
 use Rattle.base.proofs.Tests.{by-test, and-yes, and-left, and-right, between-yes}
 use Rattle.state.proofs.Fields.{Held, by-fields, scalar-at, same-field, get-put-same, get-put-other, put-values-length, put-levels-length}
 use Rattle.state.proofs.Alarms.{raised-within, cleared-within, lasting-within}
@@ -92,12 +92,13 @@ module _ (r : Record) (v : valid r ≡ true) where
 
   -- the alarms become others if the number is an alarm's
   if-alarms : (k : ℕ) (change : ℕ → ℕ) → ((n : ℕ) → isAlarm k ≡ true → within (fieldRange alarms) n ≡ true → within (fieldRange alarms) (change n) ≡ true)
-      → valid (pick (isAlarm k) (put alarms (change (get alarms r)) r) r) ≡ true
+      → valid (alarmChanged k change r) ≡ true
+  unfolding alarmChanged
   if-alarms k change inside =
       by-test (isAlarm k) (λ a. simp a (put-kept r v alarms (change (get alarms r)) (inside (get alarms r) a (field-in r v alarms (omega arith))))) (λ a. simp a v)
 
   happened-kept : (e : Event) → valid (happened e r) ≡ true
-  unfolding keypadOn powerBack alarmRaised alarmCleared
+  unfolding keypadOn powerBack
   happened-kept (Pulses n) = pulses-kept n
   happened-kept Still = put-kept r v flow off refl
   happened-kept KeypadOn = if-put (inPhase idle r || inPhase done r) keypad on r v refl
@@ -135,8 +136,11 @@ module _ (r : Record) (v : valid r ≡ true) where
   pub ended-kept : valid (ended r) ≡ true
   ended-kept = put-kept r v phase idle refl
 
+  pub lasting-in : within (fieldRange alarms) (lasting (get alarms r)) ≡ true
+  lasting-in = lasting-within (get alarms r) (field-in r v alarms (omega arith))
+
   pub reset-kept : valid (alarmsReset r) ≡ true
-  reset-kept = put-kept r v alarms (lasting (get alarms r)) (lasting-within (get alarms r) (field-in r v alarms (omega arith)))
+  reset-kept = put-kept r v alarms (lasting (get alarms r)) lasting-in
 
 -- a record that is not valid comes back unchanged
 pub after-unchanged : (e : Event) (r : Record) → valid r ≡ false → after e r ≡ r

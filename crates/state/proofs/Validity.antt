@@ -1,6 +1,6 @@
 -- Validity, field by field. Assumes nothing.
 use Prim.Native.Nat.{ℕ, zero, suc, _+_, _*_, _≤_, _<_}
-use mathlib.Core.Bool.{Bool, true, false, not, _&&_, false≢true}
+use mathlib.Core.Bool.{Bool, true, false, not, _&&_, false≢true, and-true, and-assoc}
 use mathlib.Core.Path.{_≡_, refl, sym, ap, _∙_, subst}
 use mathlib.Core.List.{List, [], _∷_, _++_}
 use mathlib.Core.Logic.{⊎-elim}
@@ -31,14 +31,6 @@ phase-high Set = refl
 phase-high Running = refl
 phase-high Stopped = refl
 phase-high Done = refl
-
-and-assoc : (a b c : Bool) → ((a && b) && c) ≡ (a && (b && c))
-and-assoc true b c = refl
-and-assoc false b c = refl
-
-and-yes-r : (a : Bool) → (a && true) ≡ a
-and-yes-r true = refl
-and-yes-r false = refl
 
 pub all-append : (r : Record) (xs ys : List Field) → allIn r (xs ++ ys) ≡ (allIn r xs && allIn r ys)
 unfolding allIn
@@ -88,18 +80,20 @@ low-zero n = le-leb 0 n (omega arith)
 
 pub scalars-tested : (r : Record) → tests (leb (fieldRange address .low) (r .address)) (ends r) ≡ allIn r scalarFields
 unfolding allIn
-scalars-tested r = simp (phase-high, flag-high, low-zero, and-assoc, and-yes-r)
+scalars-tested r = simp (phase-high, flag-high, low-zero, and-assoc, and-true)
 
 -- the ends that laws ask for
 pub record Scalars (r : Record) : Type 0 where
   pub address-high : r .address ≤ fieldRange address .high
   pub raw-high : r .raw ≤ fieldRange raw .high
+  pub alarms-high : r .alarms ≤ fieldRange alarms .high
 
 scalars-tell : (r : Record) → allIn r scalarFields ≡ true → Scalars r
 scalars-tell r h =
     record {
       address-high = between-high _ _ _ (all-at r scalarFields (position address) h (omega arith));
       raw-high = between-high _ _ _ (all-at r scalarFields (position raw) h (omega arith));
+      alarms-high = between-high _ _ _ (all-at r scalarFields (position alarms) h (omega arith));
     }
 
 decided : (b : Bool) → (b ≡ true → ⊥) → false ≡ b

@@ -3,7 +3,7 @@
 use Prim.Native.Nat.{ℕ, zero, suc, _+_, _<_}
 use mathlib.Core.Bool.{Bool, true, false}
 use mathlib.Core.Path.{_≡_, refl, sym, ap, _∙_}
-use mathlib.Core.List.{[], _∷_, _++_, map}
+use mathlib.Core.List.{List, [], _∷_, _++_, map}
 use mathlib.Core.Logic.{⊎-elim}
 use native.Mathlib.Nat.{eq-or-lt-of-le}
 use native.Mathlib.Omega.{arith}
@@ -36,6 +36,12 @@ listed-at w (suc n) i h =
     (λ (q : i ≡ n). ap (λ (j : ℕ). getD (listed w n ++ (w n ∷ [])) j 0) (omega arith) ∙ (getD-append-add (listed w n) (w n ∷ []) 0 0 ∙ ap w (sym q)))
     (λ (q : i < n). List·getD-append (listed w n) (w n ∷ []) 0 i (omega arith) ∙ listed-at w n i q)
     (eq-or-lt-of-le (omega arith))
+
+-- a list is its elements listed
+pub listed-same : (xs : List ℕ) (n : ℕ) → length xs ≡ n → listed (λ i. getD xs i 0) n ≡ xs
+listed-same xs n e =
+    let l = listed-length (λ i. getD xs i 0) n in
+    ext-getD 0 _ xs (l ∙ sym e) (λ i h. listed-at (λ j. getD xs j 0) n i (omega arith))
 
 module _ (w : Field → ℕ) (inside : (f : Field) → Held f → within (fieldRange f) (w f) ≡ true) where
   scalars-from : map (λ (f : Field). pick (within (fieldRange f) (w f)) (get f (recordFrom w)) (w f)) scalarFields ≡ map w scalarFields

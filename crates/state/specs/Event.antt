@@ -53,11 +53,8 @@ unfoldable pub keypadOn : Record → Record
 keypadOn r = pick (inPhase idle r || inPhase done r) (put keypad on r) r
 
 -- "A panel event raises or clears one alarm"; "a panel event for an alarm outside 1..19 changes nothing"
-unfoldable pub alarmRaised : ℕ → Record → Record
-alarmRaised k r = pick (isAlarm k) (put alarms (raised k (get alarms r)) r) r
-
-unfoldable pub alarmCleared : ℕ → Record → Record
-alarmCleared k r = pick (isAlarm k) (put alarms (cleared k (get alarms r)) r) r
+unfoldable pub alarmChanged : ℕ → (ℕ → ℕ) → Record → Record
+alarmChanged k change r = pick (isAlarm k) (put alarms (change (get alarms r)) r) r
 
 abbrev pub happened : Event → Record → Record
 happened (Pulses n) r = pulses n r
@@ -65,8 +62,8 @@ happened Still r = put flow off r
 happened KeypadOn r = keypadOn r
 happened KeypadOff r = put keypad off r
 happened PowerBack r = powerBack r
-happened (AlarmOn k) r = alarmRaised k r
-happened (AlarmOff k) r = alarmCleared k r
+happened (AlarmOn k) r = alarmChanged k (λ n. raised k n) r
+happened (AlarmOff k) r = alarmChanged k (λ n. cleared k n) r
 
 -- "A record that is not valid comes back unchanged."
 unfoldable pub after : Event → Record → Record

@@ -2,8 +2,9 @@
 ghost use mathlib.Core.Path.{_≡_};
 ghost use mathlib.Core.Bool.{_&&_};
 ghost use Prim.Native.Nat.{_%_, _≤_};
+ghost use Rattle.base.specs.Test.{pick};
 ghost use Rattle.state.specs.Parameter.{codeAt, rangeAt, placeOf};
-ghost use Rattle.state.specs.Alarm.{alarmCount, allAlarms, isAlarm, weightOf, lasting};
+ghost use Rattle.state.specs.Alarm.{allAlarms, isAlarm, weightOf, lasting};
 ghost use Rattle.state.specs.Field.{Field, get, put, phaseNumber, scalarFields};
 ghost use Rattle.state.specs.Valid.{within, allIn, valid};
 ghost use Rattle.state.specs.Event.{after, nextNumber, batchSet, started, halted, ended, alarmsReset};
@@ -234,6 +235,8 @@ pub fn next_number(n: u16) -> u16
 // There are nineteen: document 000's A1 to A5, each from its 8 down, without the reserved bit.
 const ALARMS: u16 = 19;
 
+const ALL_ALARMS: u32 = ALARMS_RANGE.high;
+
 // Those that AR leaves: all but PA and U1 to U5.
 const LASTING_ALARMS: u32 = 0x7f867;
 
@@ -250,11 +253,13 @@ fn is_alarm(number: u16) -> bool
     (1 <= number) & (number <= ALARMS)
 }
 
-// The bit of an alarm.
+// The bit of an alarm; 0 for a number that is no alarm's.
 fn alarm_bit(number: u16) -> u32
-    requires { ⌜ (1 ≤ number) × (number ≤ alarmCount) ⌝ }
-    ensures { λ n. ⌜ (n ≡ weightOf number) × (n ≤ allAlarms) ⌝ }
+    ensures { λ n. ⌜ (n ≡ pick (isAlarm number) (weightOf number) 0) × (n ≤ allAlarms) ⌝ }
 {
+    if !is_alarm(number) {
+        return 0;
+    }
     1 << (ALARMS - number)
 }
 
@@ -439,30 +444,26 @@ impl Record {
     }
 
     // An alarm comes on; a number that is no alarm's changes nothing.
-    pub fn alarm_on(mut self, number: u16) -> Record
+    pub fn alarm_on(self, number: u16) -> Record
         ensures { λ r. ⌜ r ≡ after (Event.AlarmOn number) self ⌝ }
     {
-        if !self.valid() {
-            return self;
-        }
-        if !is_alarm(number) {
-            return self;
-        }
-        self.alarms = self.alarms | alarm_bit(number);
-        self
+        self.with_alarms(self.alarms | alarm_bit(number))
     }
 
     // The panel clears an alarm.
-    pub fn alarm_off(mut self, number: u16) -> Record
+    pub fn alarm_off(self, number: u16) -> Record
         ensures { λ r. ⌜ r ≡ after (Event.AlarmOff number) self ⌝ }
+    {
+        self.with_alarms(self.alarms & (ALL_ALARMS - alarm_bit(number)))
+    }
+
+    fn with_alarms(mut self, alarms: u32) -> Record
+        ensures { λ r. ⌜ r ≡ pick (valid self) (put Field.alarms alarms self) self ⌝ }
     {
         if !self.valid() {
             return self;
         }
-        if !is_alarm(number) {
-            return self;
-        }
-        self.alarms = self.alarms & (ALARMS_RANGE.high - alarm_bit(number));
+        self.alarms = alarms;
         self
     }
 

@@ -4,11 +4,11 @@ use Prim.Native.Nat.{ℕ, zero, suc, _+_, _-_, _*_, _^_, _≤_, _<_}
 use mathlib.Core.Bool.{Bool, true, false, not, _&&_, false≢true}
 use mathlib.Core.Path.{_≡_, refl, sym, ap, _∙_}
 use mathlib.Core.List.{List, [], _∷_, _++_}
-use native.Mathlib.Nat.{pow-suc}
 use native.Mathlib.Omega.{arith}
 use native.Mathlib.Numerals.{add-one}
 use lib.Bits.{bitAnd}
 use lib.Dec.{eqb, ltb}
+use lib.Pow.{pow-pos}
 use lib.ListN.{length, getD, take, drop, set, length-take, length-drop}
 use borrow.Author.Tests.{eq-eqb, ne-eqb, ltb-true, lt-ltb, not-true, not-false}
 use Rattle.base.specs.Test.{unless, pick, between, member}
@@ -114,10 +114,6 @@ refused-done {A} k a b e =
     let z : _≡_ {A = ℕ} 0 1 = cc in
     omega arith
 
-power-low : (n : ℕ) → 1 ≤ 2 ^ n
-power-low zero = omega arith
-power-low (suc n) = let h = power-low n in let p : 2 ^ suc n ≡ 2 ^ n * 2 = pow-suc 2 n in omega arith
-
 -- a number in its slot fits its item, but for the alarms'
 abbrev ranged : Item → Bool
 ranged (alone w f) = true
@@ -128,7 +124,7 @@ inside-fits : (at : ℕ) (x : Item) (n : ℕ) → ranged x ≡ true → inSlot (
 inside-fits at (alone w f) n g i = i
 inside-fits at (together fs) n g i =
     let h = between-high 0 (2 ^ length fs - 1) n i in
-    let p = power-low (length fs) in
+    let p = pow-pos (length fs) in
     lt-ltb n (2 ^ length fs) (omega arith)
 inside-fits at bitMapped n g i = absurd (false≢true g)
 

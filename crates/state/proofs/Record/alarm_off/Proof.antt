@@ -1,23 +1,8 @@
--- `state::Record::alarm_off` meets its contract: unchanged if not valid or no alarm's number, else the bit of the one alarm. Assumes nothing.
-use Rattle.state.specs.Field.{put}
-use Rattle.state.proofs.Alarms.{alarm-numbered}
-use Rattle.state.proofs.Events.{after-invalid, no-alarm-cleared, alarm-cleared}
+-- `state::Record::alarm_off` meets its contract: the bit of the one alarm, or of none. Assumes nothing.
+use Rattle.state.proofs.Events.{alarm-cleared}
 use borrow.Author.Needs.{needs}
 use Rattle.state.proofs.Record.alarm_off.Statement.{statement}
 use Rattle.state.proofs.Record.alarm_off.Tie as tie
 
-numbered : tie.Need-alarm-bit-requires
-numbered c κs = alarm-numbered _ _ (c .before .is-alarm .ensures) (c .if2 .left)
-
 pub alarm-off-spec : {M : Type 1} → statement M
-unfolding put
-alarm-off-spec =
-    tie.close
-    (tie.spec
-    (λ c κs. search needs)
-    (λ c. search after-invalid)
-    (λ c κs. search needs)
-    (λ c. search no-alarm-cleared)
-    numbered
-    (λ c. search needs)
-    (λ c. search alarm-cleared))
+alarm-off-spec = tie.close (tie.spec (λ c κs. search needs) (λ c. search needs) (λ c κs. search needs) (λ c. search alarm-cleared))
