@@ -169,6 +169,44 @@ STARTED_WITH_ALARM = [
     ("EA", "00001"),
 ]
 
+# The host reloads recipe 3 each morning, with the values that are already there.
+MORNING_BEFORE_THE_FLAG = [
+    ("RS", "RS "),
+    ("PV 031", "PV 031 00002500"),
+    ("PV 032", "PV 032 00010150"),
+    ("PV 033", "PV 033 00000120"),
+    ("PC 031 00002500", "OK"),
+    ("PC 032 00010150", "OK"),
+    ("PC 033 00000120", "OK"),
+]
+
+MORNING_RELOAD = MORNING_BEFORE_THE_FLAG + [
+    # Nothing is different from before, and no flag says so.
+    ("EQ", "000000"),
+    ("RS", "RS "),
+    # Recipe 4 too; what it held was not asked, but the flag tells that it was the same.
+    ("PC 041 00007500", "OK"),
+    ("PC 042 00009990", "OK"),
+    ("RS", "RS "),
+    # The foreman's change during the day.
+    ("PC 032 10180", "OK"),
+    ("EQ", "000800"),
+    ("RS", "RS PC "),
+    # The next morning, from the new sheet: the flag is on until someone has seen it.
+    ("PC 032 00010180", "OK"),
+    ("RS", "RS PC "),
+    ("RE PC", "OK"),
+    ("PC 032 00010180", "OK"),
+    ("RS", "RS "),
+]
+
+# A controller that lights the flag at every write, as the first ones did.
+FLAG_ALWAYS_LIT = MORNING_BEFORE_THE_FLAG + [
+    ("EQ", "000800"),
+    ("RE PC", "OK"),
+    ("RS", "RS "),
+]
+
 # On the way to the controller a digit became another; the check character is still that of 10150.
 DISTURBED_WRITE = framed(1, "PC 032 10150").replace(b"10150", b"10950")
 
@@ -468,8 +506,9 @@ class SimulatedController:
 
     def carried_out(self, code, words):
         if code == "PC":
-            self.values[words[0]] = int(words[1])
-            self.changed = True
+            value = int(words[1])
+            self.changed = self.changed or value != self.values[words[0]]
+            self.values[words[0]] = value
         elif code == "XC":
             self.levels[words[0]] = int(words[1])
         elif code == "NR":
@@ -589,6 +628,7 @@ def every_recording():
         "bench_other_recipe": recording(1, 2, BENCH_OTHER_RECIPE),
         "check_character_02": recording(1, 2, CHECK_CHARACTER_02),
         "cut_by_the_recorder": cut_by_the_recorder(),
+        "flag_always_lit": recording(1, 2, FLAG_ALWAYS_LIT),
         "honest_day": recording(7, 2, HONEST_DAY),
         "keypad_then_phase": recording(1, 2, KEYPAD_THEN_PHASE),
         "lasting_alarm_forgotten": recording(1, 2, LASTING_ALARM_FORGOTTEN),
@@ -596,6 +636,7 @@ def every_recording():
         "level_stays_open": recording(1, 2, LEVEL_STAYS_OPEN),
         "long_honest": long_honest(),
         "monday_drum_change": recording(12, 2, MONDAY_DRUM_CHANGE),
+        "morning_reload": recording(1, 2, MORNING_RELOAD),
         "no_exchange": recording(1, 2, []),
         "no_phase_left": recording(1, 2, NO_PHASE_LEFT),
         "running_with_keypad_on": recording(1, 2, RUNNING_WITH_KEYPAD_ON),

@@ -6,13 +6,16 @@ use crate::fault::Fault;
 use crate::frame::{self, Kind};
 use crate::generate::recordings;
 use crate::generate::records::record_without_alarms;
-use crate::generate::requests::{self, command_of_document_01};
+use crate::generate::requests::{self, command_of_document_01, Commands};
 use crate::random::Random;
 use crate::record::{Phase, Record};
 use crate::stored::{self, STORED_LENGTH};
 use crate::{interface, library};
 use std::hint::black_box;
 use std::time::{Duration, Instant};
+
+/// Whatever the record holds, so that the requests stay the same.
+const COMMANDS: Commands = |random, _| command_of_document_01(random);
 
 /// The same work for both, by turns.
 struct Class {
@@ -36,14 +39,14 @@ fn classes(seed: u64) -> Vec<Class> {
 
 type Mix = (&'static str, Vec<Vec<u8>>);
 
-fn mixes(random: &mut Random, address: u8) -> Vec<Mix> {
+fn mixes(random: &mut Random, record: &Record) -> Vec<Mix> {
     let framed = |commands: &[&str]| -> Vec<Vec<u8>> {
         commands
             .iter()
             .map(|command| {
                 frame::framed(
                     Kind::Minicomputer,
-                    format!("{address:02}{command}").as_bytes(),
+                    format!("{:02}{command}", record.address).as_bytes(),
                 )
             })
             .collect()
@@ -79,9 +82,7 @@ fn mixes(random: &mut Random, address: u8) -> Vec<Mix> {
         (
             "calls: random mix",
             (0..1_000)
-                .map(|_| {
-                    requests::request(random, Kind::Minicomputer, address, command_of_document_01)
-                })
+                .map(|_| requests::request(random, Kind::Minicomputer, record, COMMANDS))
                 .collect(),
         ),
     ]
@@ -124,10 +125,7 @@ fn calls(random: &mut Random) -> Vec<Class> {
             }),
         }
     };
-    mixes(random, record.address)
-        .into_iter()
-        .map(class)
-        .collect()
+    mixes(random, &record).into_iter().map(class).collect()
 }
 
 /// Reading a stored form and writing it again, which each call over bytes does beside its own work.
@@ -150,7 +148,7 @@ fn conversion(random: &mut Random) -> Class {
 
 fn judged(random: &mut Random, length: usize) -> Class {
     let record = record_without_alarms(random);
-    let recording = recordings::long(random, record, command_of_document_01, length);
+    let recording = recordings::long(random, record, COMMANDS, length);
     let recording_second = recording.clone();
     Class {
         name: format!("judge: {} bytes that fit", recording.len()),

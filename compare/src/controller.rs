@@ -4,7 +4,9 @@ use crate::alarms;
 use crate::command::{self, Command};
 use crate::fault::Fault;
 use crate::frame::{self, Kind, LEAST_BUFFER};
-use crate::record::{factor_place, parameter_code, Phase, Record, HIGHEST_NUMBER};
+use crate::record::{
+    factor_place, is_factor, parameter_code, same_kind_place, Phase, Record, HIGHEST_NUMBER,
+};
 
 /// What a call answers beside the record after it and the lent reply buffer.
 #[derive(Clone, Copy, PartialEq, Eq, Debug)]
@@ -276,15 +278,30 @@ pub fn answer(record: &Record, command: Command, fault: Fault) -> Result<ReplyTe
     Ok(text)
 }
 
+/// The value that a PC is held against: the parameter's own before the write.
+fn held_value(record: &Record, place: usize, fault: Fault) -> u32 {
+    let place = match fault {
+        Fault::HeldAgainstCurrentRecipe => same_kind_place(place, record.recipe),
+        _ => place,
+    };
+    record.parameters[place].value
+}
+
 /// The effect of a command that was accepted.
 pub fn record_after(mut record: Record, command: Command, fault: Fault) -> Record {
     match command {
         Command::WriteValue(mut place, value) => {
-            if fault == Fault::WriteInOtherFactor && place < 24 && place % 3 == 1 {
+            if fault == Fault::WriteInOtherFactor && is_factor(place) {
                 place = (place + 3) % 24;
             }
+            let differs = value != held_value(&record, place, fault);
             record.parameters[place].value = value;
-            record.changed |= fault != Fault::WriteKeepsChanged;
+            record.changed = match fault {
+                Fault::WriteKeepsChanged => record.changed,
+                Fault::EqualWriteSetsChanged => true,
+                Fault::EqualWriteClearsChanged => differs,
+                _ => record.changed || differs,
+            };
         }
         Command::WriteLevel(place, level) => record.parameters[place].level = level,
         Command::WriteRecipe(recipe) => record.recipe = recipe,

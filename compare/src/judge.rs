@@ -3,9 +3,10 @@
 //! Each combination of phase, flags and recipe is a candidate of its own that is stepped through the
 //! controller's rules, exchange by exchange. The other fields are settled when a request first looks
 //! at them: a level by trying each one that is left, a wide field (a value, raw, the batch number) by
-//! the number that the recorded reply shows, since a reply that shows a field shows it whole. The
-//! preset is never shown. Of the alarms a reply shows all, or only whether any is on, so each
-//! candidate keeps which may be on.
+//! the number that the recorded reply shows, since a reply that shows a field shows it whole. An
+//! accepted PC looks at the value held only for whether it is the written one; where that is open and
+//! tells, a candidate goes on as two. The preset is never shown. Of the alarms a reply shows all, or
+//! only whether any is on, so each candidate keeps which may be on.
 
 use crate::alarms;
 use crate::command::Command;
@@ -13,8 +14,8 @@ use crate::controller::{self, Request};
 use crate::fault::Fault;
 use crate::frame::{self, Kind};
 use crate::record::{
-    factor_place, value_in_range, Phase, Record, HIGHEST_LEVEL, HIGHEST_NUMBER, HIGHEST_RAW,
-    PARAMETERS, RECIPES, VALUE_RANGES,
+    another_value, factor_place, is_factor, value_in_range, Phase, Record, HIGHEST_LEVEL,
+    HIGHEST_NUMBER, HIGHEST_RAW, PARAMETERS, RECIPES, VALUE_RANGES,
 };
 use crate::recording;
 
@@ -341,13 +342,42 @@ impl Candidate {
         true
     }
 
+    /// Settles before an accepted PC whether the value held is the written one, if that is open and
+    /// tells: here it is, in the candidate that is answered it is another. A flag that is on stays on
+    /// either way. After the PC all these records hold the written value, so they differ in the flag
+    /// alone.
+    fn split_by_held_value(&mut self, place: usize, value: u32, fault: Fault) -> Option<Candidate> {
+        let field = Wide::Value(place);
+        if self.knows(field) && fault != Fault::HeldValueForgotten {
+            let equal = self.record.parameters[place].value == value;
+            self.record.changed |= equal && fault == Fault::KnownEqualTakenForChange;
+            return None;
+        }
+        if self.record.changed && fault != Fault::LitFlagForgotten {
+            return None;
+        }
+        let mut other = self.clone();
+        other.settle(field, another_value(place, value), fault);
+        self.settle(field, value, fault);
+        // Off already, unless a planted fault forgets that it was on.
+        self.record.changed = false;
+        match fault {
+            Fault::UnknownValueTakenForEqual => None,
+            Fault::UnknownValueTakenForOther => {
+                *self = other;
+                None
+            }
+            _ => Some(other),
+        }
+    }
+
     /// A value that was written is known.
     fn learn_written_value(&mut self, command: Command, reply: &[u8], fault: Fault) {
         let (Command::WriteValue(place, value), b"OK") = (command, &reply[2..]) else {
             return;
         };
         self.values_known |= 1 << place;
-        if fault == Fault::WriteJudgedInCurrentRecipe && place < 24 && place % 3 == 1 {
+        if fault == Fault::WriteJudgedInCurrentRecipe && is_factor(place) {
             self.forget(Wide::Value(place));
             self.settle(Wide::Value(factor_place(self.record.recipe)), value, fault);
         }
@@ -438,7 +468,16 @@ fn keep_agreeing(candidates: &mut Vec<Candidate>, request: &[u8], reply: &[u8], 
         }
     }
     let told = told_of_alarms(command, text, fault);
-    candidates.retain_mut(|candidate| match command {
+    let mut others: Vec<Candidate> = match (command, &text[2..]) {
+        // Every level stands at its low end here and passes, so that keypad and phase decide.
+        (Command::WriteValue(place, value), b"OK") => candidates
+            .iter_mut()
+            .filter(|candidate| agrees(&candidate.record, command, text, fault))
+            .filter_map(|candidate| candidate.split_by_held_value(place, value, fault))
+            .collect(),
+        _ => vec![],
+    };
+    let mut step = |candidate: &mut Candidate| match command {
         Command::Level(place) | Command::WriteValue(place, _) | Command::WriteLevel(place, _) => {
             candidate.step_each_level(command, place, text, fault)
         }
@@ -448,7 +487,10 @@ fn keep_agreeing(candidates: &mut Vec<Candidate>, request: &[u8], reply: &[u8], 
             without_keypad.step(command, text, told, fault)
         }
         _ => candidate.step(command, text, told, fault),
-    });
+    };
+    candidates.retain_mut(&mut step);
+    others.retain_mut(&mut step);
+    candidates.append(&mut others);
     // Writes make different records equal; reads do not.
     if !command.is_read() && text[2..] == *b"OK" {
         candidates.sort_unstable();

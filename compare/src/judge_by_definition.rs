@@ -3,8 +3,9 @@
 //!
 //! A recording of few commands looks at few fields. Those are enumerated in full but for the wide
 //! ones, of which the numbers in the recording (for the batch number, also as they stood some batches
-//! before) and one other are taken; and for the alarms, of which those that the recording shows are
-//! taken, each also as it may have been before AR, and one of each sort.
+//! before; for a value, those shown and those written) and one other are taken; and for the alarms, of
+//! which those that the recording shows are taken, each also as it may have been before AR, and one of
+//! each sort.
 
 use crate::alarms;
 use crate::command::Command;
@@ -15,69 +16,133 @@ use crate::generate::recordings::{self, Exchanges};
 use crate::generate::{records, requests};
 use crate::judge::{judge, Judgement};
 use crate::random::Random;
-use crate::record::{factor_place, Phase, Record, PARAMETERS, RECIPES};
+use crate::record::{factor_place, is_factor, Phase, Record, PARAMETERS, RECIPES, VALUE_RANGES};
 use crate::recording::{self, Exchange};
+
+/// The record after an exchange, if the exchange agrees.
+fn after(record: Record, (request, reply): (&[u8], &[u8])) -> Option<Record> {
+    let mut buffer = [0; 64];
+    let (outcome, after) = controller::call(
+        record,
+        Kind::Minicomputer,
+        request,
+        &mut buffer,
+        Fault::None,
+    );
+    let length = match outcome {
+        Outcome::Silence(_) => 0,
+        Outcome::Reply(length) => length,
+    };
+    (buffer[..length] == *reply).then_some(after)
+}
 
 /// How many exchanges agree from this record, before the first that does not.
 fn agreeing(mut record: Record, exchanges: &[Exchange]) -> usize {
     for (place, exchange) in exchanges.iter().enumerate() {
-        let mut buffer = [0; 64];
-        let (outcome, after) = controller::call(
-            record,
-            Kind::Minicomputer,
-            exchange.request,
-            &mut buffer,
-            Fault::None,
-        );
-        let length = match outcome {
-            Outcome::Silence(_) => 0,
-            Outcome::Reply(length) => length,
-        };
-        if buffer[..length] != *exchange.reply {
-            return place;
+        match after(record, (exchange.request, exchange.reply)) {
+            Some(after) => record = after,
+            None => return place,
         }
-        record = after;
     }
     exchanges.len()
 }
 
-/// The numbers of eight or four digits that the replies end with.
-fn shown_numbers(exchanges: &[Exchange]) -> Vec<u32> {
-    let mut numbers = vec![];
-    for exchange in exchanges {
-        for width in [4, 8] {
-            let digits = exchange
-                .reply
-                .len()
-                .checked_sub(3 + width)
-                .map(|start| &exchange.reply[start..start + width]);
-            if let Some(number) = digits
-                .and_then(|digits| std::str::from_utf8(digits).ok())
-                .and_then(|digits| digits.parse().ok())
-            {
-                numbers.push(number);
-            }
-        }
-    }
-    numbers.sort_unstable();
-    numbers.dedup();
-    numbers
+/// The number in so many digits that a reply ends with.
+fn shown_number(exchange: &Exchange, width: usize) -> Option<u32> {
+    let start = exchange.reply.len().checked_sub(3 + width)?;
+    let digits = std::str::from_utf8(&exchange.reply[start..start + width]).ok()?;
+    digits.parse().ok()
+}
+
+fn sorted<Item: Ord>(mut items: Vec<Item>) -> Vec<Item> {
+    items.sort_unstable();
+    items.dedup();
+    items
+}
+
+/// The numbers that replies to such commands show.
+fn shown_numbers(
+    asked: &[(Command, Exchange)],
+    width: usize,
+    shows: impl Fn(Command) -> bool,
+) -> Vec<u32> {
+    let replies = asked.iter().filter(|(command, _)| shows(*command));
+    sorted(
+        replies
+            .filter_map(|(_, exchange)| shown_number(exchange, width))
+            .collect(),
+    )
+}
+
+/// The values to start with at a place: those that are shown or written there, and one other, if the
+/// range has one. Two others are never told apart.
+fn starting_values(asked: &[(Command, Exchange)], place: usize) -> Vec<u32> {
+    let mut values = shown_numbers(asked, 8, |command| {
+        command == Command::Value(place) || is_factor(place) && command == Command::RecipeFactor
+    });
+    values.extend(asked.iter().filter_map(|(command, _)| match *command {
+        Command::WriteValue(written, value) if written == place => Some(value),
+        _ => None,
+    }));
+    let (low, high) = VALUE_RANGES[place];
+    values.extend((low..=high).find(|value| !values.contains(value)));
+    sorted(values)
 }
 
 /// The alarms to start with: two starts that show the same, or that show nothing in this recording,
-/// differ only in whether any alarm is on and whether a lasting one is.
-fn starting_alarms(exchanges: &[Exchange]) -> Vec<u32> {
+/// differ only in whether any alarm is on and, if there is an AR, whether a lasting one is.
+fn starting_alarms(asked: &[(Command, Exchange)]) -> Vec<u32> {
     let (resettable, lasting) = (alarms::numbered(12), alarms::numbered(1));
-    let mut starts = vec![0, resettable, lasting, resettable | lasting];
-    for exchange in exchanges {
+    let mut starts = vec![0, resettable];
+    for (command, exchange) in asked {
+        if *command == Command::ResetAlarms {
+            starts.extend([lasting, resettable | lasting]);
+        }
         let text = frame::open(Kind::Minicomputer, exchange.reply, Fault::None);
         if let Some(shown) = text.ok().and_then(|text| alarms::shown(&text[2..])) {
             starts.extend([shown, shown | resettable]);
         }
     }
-    starts.sort_unstable();
-    starts.dedup();
-    starts
+    sorted(starts)
+}
+
+/// Flow and power fail as a reply shows them.
+fn shown_flow_and_power_fail((command, exchange): &(Command, Exchange)) -> Option<(bool, bool)> {
+    let text = frame::open(Kind::Minicomputer, exchange.reply, Fault::None).ok()?;
+    match command {
+        Command::Status => Some((text.get(2)? & 2 != 0, text.get(5)? & 1 != 0)),
+        Command::StatusCodes => {
+            let shows = |code: &[u8; 3]| text.windows(3).any(|part| part == code);
+            Some((shows(b"FL "), shows(b"PF ")))
+        }
+        _ => None,
+    }
+}
+
+/// Flow and power fail to start with: no request changes them, so from others than those shown no
+/// reply that shows them agrees.
+fn starting_flow_and_power_fail(asked: &[(Command, Exchange)]) -> Vec<(bool, bool)> {
+    let shown = sorted(asked.iter().filter_map(shown_flow_and_power_fail).collect());
+    if shown.is_empty() {
+        vec![(false, false)]
+    } else {
+        shown
+    }
+}
+
+/// The batch numbers to start with: those shown, also as they stood some batches before, and another.
+fn starting_batch_numbers(asked: &[(Command, Exchange)]) -> Vec<u32> {
+    let batches = asked
+        .iter()
+        .filter(|(command, _)| matches!(command, Command::SetBatch(_)))
+        .count() as u32;
+    let mut numbers = vec![5_000];
+    for number in shown_numbers(asked, 4, |command| command == Command::BatchNumber) {
+        if (1..=9_999).contains(&number) {
+            numbers.extend((0..=batches).map(|before| (number + 9_999 - 1 - before) % 9_999 + 1));
+        }
+    }
+    sorted(numbers)
 }
 
 /// Every record with one more field taken through these numbers.
@@ -102,18 +167,19 @@ fn spread<Number: Copy>(
 /// The starting records, or none if they are more than can be gone through.
 fn starting_records(address: u8, access: u8, exchanges: &[Exchange]) -> Option<Vec<Record>> {
     const MOST: usize = 150_000;
-    let commands: Vec<Command> = exchanges
+    let asked: Vec<(Command, Exchange)> = exchanges
         .iter()
         .filter_map(|exchange| {
             match controller::understand(address, Kind::Minicomputer, exchange.request, Fault::None)
             {
-                Request::Asked(command) => Some(command),
+                Request::Asked(command) => Some((command, *exchange)),
                 _ => None,
             }
         })
         .collect();
-    let asks = |wanted: &[Command]| commands.iter().any(|command| wanted.contains(command));
-    let shown = shown_numbers(exchanges);
+    let asks = |wanted: &[Command]| asked.iter().any(|(command, _)| wanted.contains(command));
+    let flags_shown = asks(&[Command::Status, Command::StatusCodes]);
+    let factor_shown = asks(&[Command::RecipeFactor]);
     let mut records = vec![Record {
         address,
         access,
@@ -122,70 +188,50 @@ fn starting_records(address: u8, access: u8, exchanges: &[Exchange]) -> Option<V
     let flags = [false, true];
     records = spread(records, &Phase::ALL, |record, phase| record.phase = phase);
     records = spread(records, &flags, |record, on| record.keypad = on);
-    if asks(&[Command::Status, Command::StatusCodes]) {
-        records = spread(records, &flags, |record, on| record.flow = on);
+    if flags_shown {
         records = spread(records, &flags, |record, on| record.changed = on);
         records = spread(records, &flags, |record, on| record.batch_reset = on);
-        records = spread(records, &flags, |record, on| record.power_fail = on);
+        let pairs = starting_flow_and_power_fail(&asked);
+        records = spread(records, &pairs, |record, (flow, power_fail)| {
+            record.flow = flow;
+            record.power_fail = power_fail;
+        });
     }
-    if asks(&[
-        Command::Status,
-        Command::StatusCodes,
-        Command::Alarms,
-        Command::Start,
-    ]) {
-        records = spread(records, &starting_alarms(exchanges), |record, alarms| {
+    if flags_shown || asks(&[Command::Alarms, Command::Start]) {
+        records = spread(records, &starting_alarms(&asked), |record, alarms| {
             record.alarms = alarms;
         });
     }
-    if asks(&[Command::Recipe, Command::RecipeFactor]) {
+    if factor_shown || asks(&[Command::Recipe]) {
         let recipes: Vec<u8> = (1..=RECIPES).collect();
         records = spread(records, &recipes, |record, recipe| record.recipe = recipe);
     }
     if asks(&[Command::RawTotal]) {
+        let shown = shown_numbers(&asked, 8, |command| command == Command::RawTotal);
         let numbers = [&shown[..], &[77]].concat();
         records = spread(records, &numbers, |record, raw| record.raw = raw);
     }
     if asks(&[Command::BatchNumber]) {
-        let mut numbers = vec![5_000];
-        let batches = commands
-            .iter()
-            .filter(|command| matches!(command, Command::SetBatch(_)))
-            .count() as u32;
-        for &number in shown.iter().filter(|number| (1..=9_999).contains(*number)) {
-            for before in 0..=batches {
-                numbers.push((number + 9_999 - 1 - before) % 9_999 + 1);
-            }
-        }
-        numbers.sort_unstable();
-        numbers.dedup();
-        records = spread(records, &numbers, |record, number| {
-            record.number = number as u16
-        });
+        records = spread(
+            records,
+            &starting_batch_numbers(&asked),
+            |record, number| record.number = number as u16,
+        );
     }
     let mut levels_seen = [false; PARAMETERS];
     let mut values_seen = [false; PARAMETERS];
-    let mut factors_seen = vec![];
-    for command in &commands {
+    for (command, _) in &asked {
         match *command {
             Command::Value(place) => values_seen[place] = true,
-            Command::Level(place)
-            | Command::WriteValue(place, _)
-            | Command::WriteLevel(place, _) => levels_seen[place] = true,
-            Command::WriteRecipe(recipe) => factors_seen.push(factor_place(recipe)),
+            Command::Level(place) | Command::WriteLevel(place, _) => levels_seen[place] = true,
+            Command::WriteValue(place, _) => {
+                levels_seen[place] = true;
+                // The flag tells of the value that was written over.
+                values_seen[place] |= flags_shown;
+            }
+            Command::WriteRecipe(recipe) => values_seen[factor_place(recipe)] |= factor_shown,
             _ => {}
         }
-    }
-    if asks(&[Command::RecipeFactor]) {
-        for place in factors_seen {
-            values_seen[place] = true;
-        }
-        // The factor of the recipe that a record starts with; others are spread below, if looked at.
-        let numbers = [&shown[..], &[8_765]].concat();
-        records = spread(records, &numbers, |record, number| {
-            let place = factor_place(record.recipe);
-            record.parameters[place].value = number;
-        });
     }
     for place in 0..PARAMETERS {
         if records.len() > MOST {
@@ -196,13 +242,13 @@ fn starting_records(address: u8, access: u8, exchanges: &[Exchange]) -> Option<V
                 record.parameters[place].level = level;
             });
         }
-        if values_seen[place] {
-            let other = Record::low().parameters[place].value;
-            let numbers = [&shown[..], &[other]].concat();
-            records = spread(records, &numbers, |record, number| {
-                record.parameters[place].value = number;
-            });
-        }
+        let (seen, unseen): (Vec<_>, Vec<_>) = records.into_iter().partition(|record| {
+            values_seen[place] || factor_shown && factor_place(record.recipe) == place
+        });
+        records = spread(seen, &starting_values(&asked, place), |record, value| {
+            record.parameters[place].value = value;
+        });
+        records.extend(unseen);
     }
     (records.len() <= MOST).then_some(records)
 }
@@ -227,12 +273,21 @@ fn by_definition(bytes: &[u8]) -> Option<Judgement> {
     })
 }
 
+/// A recording of up to so many commands, or of some in an order that tells.
+fn telling_recording(random: &mut Random, longest: u32) -> Vec<u8> {
+    if random.percent(30) {
+        recordings::ordered(random)
+    } else {
+        recordings::adversarial(random, longest)
+    }
+}
+
 /// Judges random recordings both ways; answers how many fit and how many were refuted.
 fn compare(seed: u64, wanted: usize, longest: u32) -> (usize, usize) {
     let mut random = Random::new(seed);
     let (mut fits, mut refuted) = (0, 0);
     while fits + refuted < wanted {
-        let bytes = recordings::adversarial(&mut random, longest);
+        let bytes = telling_recording(&mut random, longest);
         let Some(expected) = by_definition(&bytes) else {
             continue;
         };
@@ -258,22 +313,52 @@ fn longer_recordings() {
     assert!(fits > 50 && refuted > 50, "{fits} fit, {refuted} refuted");
 }
 
-/// Judges every sequence of up to five of these exchanges both ways, as long as it fits; answers how
-/// many.
-fn compare_sequences(exchanges: &Exchanges, before: &mut Exchanges) -> usize {
+/// Judges every sequence of up to so many of these exchanges both ways, as long as it fits; answers how
+/// many. The records are those to which the exchanges before it have led.
+fn compare_sequences(
+    exchanges: &Exchanges,
+    most: usize,
+    before: &mut Exchanges,
+    records: &[Record],
+) -> usize {
     let mut judged = 0;
-    for exchange in exchanges {
-        before.push(exchange.clone());
+    for (request, reply) in exchanges {
+        before.push((request.clone(), reply.clone()));
+        let left: Vec<Record> = records
+            .iter()
+            .filter_map(|&record| after(record, (request, reply)))
+            .collect();
+        let count = before.len();
+        let expected = if left.is_empty() {
+            Judgement::Refuted {
+                place: count,
+                count,
+            }
+        } else {
+            Judgement::Fits { count }
+        };
         let bytes = recording::build(1, 2, before);
-        let answer = judge(&bytes, Fault::None);
-        assert_eq!(Some(answer), by_definition(&bytes), "{bytes:02X?}");
+        assert_eq!(judge(&bytes, Fault::None), expected, "{bytes:02X?}");
         judged += 1;
-        if matches!(answer, Judgement::Fits { .. }) && before.len() < 5 {
-            judged += compare_sequences(exchanges, before);
+        if !left.is_empty() && count < most {
+            judged += compare_sequences(exchanges, most, before, &left);
         }
         before.pop();
     }
     judged
+}
+
+/// Judges the sequences of these exchanges, from every record that could matter to one of them.
+fn judged_sequences(exchanges: &[(&str, &str)], most: usize) -> usize {
+    let text = |text: &str| frame::framed(Kind::Minicomputer, format!("01{text}").as_bytes());
+    let exchanges: Exchanges = exchanges
+        .iter()
+        .map(|(request, reply)| (text(request), text(reply)))
+        .collect();
+    let bytes = recording::build(1, 2, &exchanges);
+    let recording = recording::read(&bytes, Fault::None).unwrap();
+    let records = starting_records(1, 2, &recording.exchanges).unwrap();
+    compare_sequences(&exchanges, most, &mut vec![], &records)
 }
 
 #[test]
@@ -287,10 +372,25 @@ fn sequences_about_alarms() {
         ("SA", "OK"),
         ("SA", "NO09"),
     ];
-    let text = |text: &str| frame::framed(Kind::Minicomputer, format!("01{text}").as_bytes());
-    let exchanges = exchanges.map(|(request, reply)| (text(request), text(reply)));
-    let judged = compare_sequences(&exchanges.to_vec(), &mut vec![]);
+    let judged = judged_sequences(&exchanges, 5);
     assert!(judged > 1_000, "{judged}");
+}
+
+/// Over a value of many and over one of two.
+#[test]
+fn sequences_about_the_changed_flag() {
+    for (code, held, other) in [("032", 9_000, 12_000), ("806", 0, 1)] {
+        let exchanges = [
+            ("EQ", "000000"),
+            ("RS", "RS PC "),
+            ("RE PC", "OK"),
+            (&format!("PC {code} {held}"), "OK"),
+            (&format!("PC {code} {other}"), "OK"),
+            (&format!("PV {code}"), &format!("PV {code} {held:08}")),
+        ];
+        let judged = judged_sequences(&exchanges, 4);
+        assert!(judged > 1_000, "{judged}");
+    }
 }
 
 /// Minutes long; run with `--ignored`.
@@ -311,7 +411,7 @@ fn faults_of_the_judge_are_noticed() {
     for &(fault, name) in &PLANTED[first..] {
         let mut random = Random::new(4);
         let noticed = (0..20_000).any(|_| {
-            let bytes = recordings::adversarial(&mut random, 8);
+            let bytes = telling_recording(&mut random, 8);
             let faulty = judge(&bytes, fault);
             faulty != judge(&bytes, Fault::None)
                 && by_definition(&bytes).is_some_and(|expected| expected != faulty)

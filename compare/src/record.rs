@@ -77,6 +77,20 @@ pub fn factor_place(recipe: u8) -> usize {
     (usize::from(recipe) - 1) * 3 + 1
 }
 
+/// Whether a place is that of a recipe's factor.
+pub fn is_factor(place: usize) -> bool {
+    place < 24 && place % 3 == 1
+}
+
+/// The place of the parameter of another recipe that has the same kind; a system parameter's own.
+pub fn same_kind_place(place: usize, recipe: u8) -> usize {
+    if place < 24 {
+        factor_place(recipe) - 1 + place % 3
+    } else {
+        place
+    }
+}
+
 const fn range_of_code(code: u32) -> (u32, u32) {
     match code {
         801 => (0, 99),
@@ -105,6 +119,16 @@ pub const VALUE_RANGES: [(u32, u32); PARAMETERS] = {
     }
     ranges
 };
+
+/// A value of a parameter's range that is not this one; every range has two at least.
+pub fn another_value(place: usize, value: u32) -> u32 {
+    let (low, high) = VALUE_RANGES[place];
+    if value == low {
+        high
+    } else {
+        low
+    }
+}
 
 pub fn value_in_range(place: usize, value: u32) -> bool {
     let (low, high) = VALUE_RANGES[place];
@@ -167,6 +191,16 @@ mod tests {
             assert_eq!(parameter_place(code), None);
         }
         assert_eq!(parameter_code(factor_place(3)), 32);
+    }
+
+    #[test]
+    fn every_range_has_another_value() {
+        for (place, (low, high)) in VALUE_RANGES.into_iter().enumerate() {
+            for value in [low, low + 1, high] {
+                let other = another_value(place, value);
+                assert!(other != value && value_in_range(place, other), "{place}");
+            }
+        }
     }
 
     #[test]

@@ -8,7 +8,7 @@ const HEADER: usize = 5;
 pub const LONGEST_RECORDING: usize = 65_535;
 
 /// A request frame and its reply frame, which is empty where there was no reply.
-#[derive(Clone, PartialEq, Eq, Debug)]
+#[derive(Clone, Copy, PartialEq, Eq, Debug)]
 pub struct Exchange<'recording> {
     pub request: &'recording [u8],
     pub reply: &'recording [u8],

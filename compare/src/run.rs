@@ -6,6 +6,7 @@ use crate::fault::Fault;
 use crate::frame::{self, Kind};
 use crate::generate::{host, recordings, records, requests, stored_forms};
 use crate::random::Random;
+use crate::record::Record;
 use crate::stored;
 use std::time::{Duration, Instant};
 
@@ -127,7 +128,8 @@ fn one_call(
     if random.percent(1) {
         kind_number = random.byte();
     }
-    let request = requests::request(random, kind, record[3], requests::command);
+    let (_, held) = stored::read(&record, Fault::None);
+    let request = requests::request(random, kind, &held, requests::command);
     let reply = out_buffer(random, 64);
     if random.percent(2) {
         let form = stored_forms::stored_form(random);
@@ -152,7 +154,7 @@ fn host_side(comparison: &mut Comparison, random: &mut Random) -> Result<(), Dif
             comparison.read_and_build(kind_number, &frame, &out)
         }
         _ => {
-            let frame = requests::request(random, kind, 1, requests::command);
+            let frame = requests::request(random, kind, &Record::low(), requests::command);
             comparison.read_and_build(kind_number, &frame, &out)
         }
     }

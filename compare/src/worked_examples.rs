@@ -6,7 +6,7 @@ use crate::controller::{self, Outcome};
 use crate::fault::Fault;
 use crate::frame::{framed, Kind};
 use crate::judge::{judge, Judgement};
-use crate::record::{factor_place, parameter_place, Phase, Record};
+use crate::record::{factor_place, parameter_code, parameter_place, Phase, Record, VALUE_RANGES};
 use crate::recording;
 use std::fs;
 use std::path::Path;
@@ -365,6 +365,106 @@ fn judge_of_a_start_refused_by_alarms() {
             assert!(fits(&[("SA", refusal), ("EA", alarms)]));
         }
     }
+}
+
+#[test]
+fn changed_flag_on_the_bench() {
+    // The value held: nothing changes, the flag stays off.
+    for text in ["PC 032 10012", "PC 032 00010012"] {
+        assert_eq!(ask(bench_record(), text, "OK"), bench_record());
+    }
+    let record = ask(bench_record(), "PC 032 10012", "OK");
+    let record = ask(record, "EQ", "000000");
+    let record = ask(record, "RS", "RS ");
+    // Another value, and the same again: the flag is on and stays on.
+    let record = ask(record, "PC 032 10150", "OK");
+    let record = ask(record, "EQ", "000800");
+    let changed = ask(record, "PC 032 10150", "OK");
+    assert_eq!(changed, record);
+    ask(changed, "RS", "RS PC ");
+    // Cleared, it stays off for the value held now and goes on for the one held before.
+    let record = ask(changed, "RE PC", "OK");
+    let record = ask(record, "PC 032 10150", "OK");
+    let record = ask(record, "EQ", "000000");
+    let record = ask(record, "PC 032 10012", "OK");
+    ask(record, "EQ", "000800");
+    // What another recipe's factor holds does not count.
+    let record = ask(bench_record(), "PC 042 10012", "OK");
+    ask(record, "EQ", "000800");
+    let record = ask(bench_record(), "PC 042 8000", "OK");
+    ask(record, "EQ", "000000");
+}
+
+#[test]
+fn changed_flag_of_every_parameter() {
+    for (place, (low, high)) in VALUE_RANGES.into_iter().enumerate() {
+        for changed in [false, true] {
+            let mut record = Record {
+                access: 3,
+                changed,
+                ..bench_record()
+            };
+            let code = parameter_code(place);
+            for held in [low, high] {
+                record.parameters[place].value = held;
+                let equal = ask(record, &format!("PC {code:03} {held}"), "OK");
+                assert_eq!(equal, record);
+                let written = ask(record, &format!("PC {code:03} {}", low + high - held), "OK");
+                assert!(written.changed);
+            }
+            // A refused PC leaves the flag, whatever the value.
+            record.keypad = true;
+            for value in [low, high] {
+                let refused = ask(record, &format!("PC {code:03} {value}"), "NO02");
+                assert_eq!(refused, record);
+            }
+        }
+    }
+}
+
+#[test]
+fn judge_of_the_changed_flag() {
+    let [off, on] = [("EQ", "000000"), ("EQ", "000800")];
+    let [write, write_other] = [("PC 032 9000", "OK"), ("PC 032 9001", "OK")];
+    let shown = ("PV 032", "PV 032 00009000");
+    let clear = ("RE PC", "OK");
+    // The old value is not known: the flag may be either, but one that is on stays on.
+    assert!(fits(&[off, write, off]));
+    assert!(fits(&[off, write, on]));
+    assert!(fits(&[write, off]));
+    assert!(fits(&[on, write, on]));
+    assert!(refuted_at_last(&[on, write, off]));
+    assert!(refuted_at_last(&[on, write, ("RS", "RS ")]));
+    // A parameter of two values is no different.
+    for value in ["0", "1"] {
+        let write = (&*format!("PC 806 {value}"), "OK");
+        assert!(fits(&[off, write, off]) && fits(&[off, write, on]));
+    }
+    // It is known from PV, from RC of that recipe, or from a PC before.
+    for known in [shown, ("RC", "RC 03 00009000")] {
+        assert!(fits(&[off, known, write, off]), "{known:?}");
+        assert!(refuted_at_last(&[off, known, write, on]), "{known:?}");
+        assert!(refuted_at_last(&[off, known, write_other, off]));
+        assert!(fits(&[off, known, write_other, on]), "{known:?}");
+        assert!(refuted_at_last(&[on, known, write, off]), "{known:?}");
+    }
+    assert!(fits(&[write, clear, write, off]));
+    assert!(refuted_at_last(&[write, clear, write, on]));
+    assert!(refuted_at_last(&[write, clear, write_other, off]));
+    assert!(fits(&[off, write, write_other, on]));
+    assert!(refuted_at_last(&[off, write, write_other, off]));
+    // Another recipe's factor tells nothing, and a refused PC neither writes nor tells.
+    for other in [("RC", "RC 04 00009000"), ("PC 042 9000", "OK")] {
+        assert!(fits(&[other, clear, write, off]), "{other:?}");
+        assert!(fits(&[other, clear, write, on]), "{other:?}");
+    }
+    assert!(fits(&[off, ("PC 032 7999", "NO06"), write, on]));
+    assert!(fits(&[off, ("PC 032 9000", "NO07"), off]));
+    assert!(refuted_at_last(&[off, ("PC 032 9000", "NO07"), on]));
+    // The flag is not known: it tells nothing before, all the same after.
+    assert!(fits(&[shown, write, on]));
+    assert!(refuted_at_last(&[shown, write_other, off]));
+    assert!(refuted_at_last(&[shown, write, off, write, on]));
 }
 
 /// The answers that the example recordings are given beside them.

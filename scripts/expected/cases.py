@@ -416,6 +416,26 @@ def changes():
     start()
     ask("PC 042 9000", "RC", "NR 04", "RC", "PV 032")
 
+    section("PC switches changed on exactly if the value differs from the one held; else the flag stays (L2)")
+    start()
+    ask("PC 032 10012", "EQ", "RS", "PC 032 00010012", "EQ", "PC 032 10013", "EQ", "RS", "PC 032 10013", "EQ", "RS")
+    ask("RE PC", "PC 032 10013", "EQ", "PC 032 10012", "EQ")
+    note("The value that another recipe holds does not count")
+    start()
+    ask("PC 042 8000", "EQ", "PC 042 10012", "EQ")
+    note("A refused PC leaves the flag, off or on")
+    for flags in ("000000", "000100"):
+        start(flags)
+        ask("PC 032 7999", "PC 807 1", "PC 807 5", "EQ")
+    note("The first and last parameters, of a recipe and of the system: at the low end, off and on; then at the high end")
+    ends = (11, 13, 81, 83, 801, 808)
+    for flags in ("000000", "000100"):
+        start(flags)
+        ask(*("PC %03d %d" % (code, RANGES[code][0]) for code in ends), "EQ")
+    for code in ends:
+        ask("RE PC", "PC %03d %d" % (code, RANGES[code][1]))
+        show()
+
     section("A batch from its set-up to its end")
     start()
     ask("SA", "SP", "ET", "SB 500", "SB 500", "SP", "SA", "SA", "ET", "SP", "SP", "SA", "SP", "ET", "ET", "RE BD", "EQ")

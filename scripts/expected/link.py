@@ -203,7 +203,8 @@ def command(r, code, rest):
     if code == "XV":
         return "XV %s %d" % (a[0], r.levels[int(a[0])]), r
     if code == "PC":
-        return "OK", r.but_parameter(int(a[0]), value=int(a[1])).but(changed=True)
+        parameter, value = int(a[0]), int(a[1])
+        return "OK", r.but_parameter(parameter, value=value).but(changed=r.changed or value != r.values[parameter])
     if code == "XC":
         return "OK", r.but_parameter(int(a[0]), level=int(a[1]))
     if code == "NR":

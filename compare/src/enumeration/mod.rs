@@ -1,9 +1,10 @@
 //! What is enumerated and not sampled: every refusal against every phase, keypad, access and level,
-//! every combination of damages to a frame, every byte of a stored form, every alarm, every pair of
-//! telling exchanges.
+//! every combination of damages to a frame, every byte of a stored form, every alarm, every parameter
+//! rewritten, every pair of telling exchanges.
 
 mod alarms;
 mod calls;
+mod changed;
 mod frames;
 mod recordings;
 mod records;
@@ -15,8 +16,10 @@ use crate::record::{Record, VALUE_RANGES};
 const KINDS: [Kind; 2] = [Kind::Minicomputer, Kind::Terminal];
 
 pub fn enumerate(comparison: &mut Comparison) -> Result<(), Difference> {
-    recordings::recordings(comparison)?;
+    recordings::changed_recordings(comparison)?;
     recordings::alarm_recordings(comparison)?;
+    recordings::recordings(comparison)?;
+    changed::rewritten_values(comparison)?;
     calls::refusals(comparison)?;
     calls::parameters(comparison)?;
     calls::recipes(comparison)?;

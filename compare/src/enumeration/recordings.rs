@@ -1,10 +1,11 @@
-//! Recordings of every one, two and three telling exchanges, those about alarms by themselves, and
-//! every damage to the form.
+//! Recordings of every one, two and three telling exchanges, those about alarms and about the changed
+//! flag by themselves, and every damage to the form.
 
 use super::request;
 use crate::comparison::{Comparison, Difference};
 use crate::frame::Kind;
 use crate::generate::recordings::Exchanges;
+use crate::record::{parameter_code, PARAMETERS, VALUE_RANGES};
 use crate::recording;
 
 /// Exchanges that tell the judge something: request and replies.
@@ -94,6 +95,14 @@ const ODD_ALARMS: [(&str, &str); 20] = [
     ("AR", "NO09"), ("EQ", "102000"), ("EQ", "108000"), ("RS", "RS FL AL "), ("RS", "RS AL AL "),
 ];
 
+/// Those that tell of the changed flag, between two that show it.
+#[rustfmt::skip]
+const TELLING_CHANGED: [(&str, &str); 9] = [
+    ("EQ", "000000"), ("EQ", "000800"), ("RS", "RS PC "), ("RE PC", "OK"),
+    ("PC 032 9000", "OK"), ("PC 032 9001", "OK"), ("PC 042 9000", "OK"),
+    ("PV 032", "PV 032 00009000"), ("RC", "RC 03 00009000"),
+];
+
 fn telling_exchange(address: u8, command: &str, reply: &str) -> (Vec<u8>, Vec<u8>) {
     let reply = if reply.is_empty() {
         vec![]
@@ -163,6 +172,47 @@ pub fn alarm_recordings(comparison: &mut Comparison) -> Result<(), Difference> {
     }
     sequences(comparison, &telling, &mut vec![], 3)?;
     sequences(comparison, &FEW_ALARMS.map(exchange), &mut vec![], 4)
+}
+
+/// Every parameter written over a value that is known or not, and longer sequences over a factor; the
+/// flag is known before.
+pub fn changed_recordings(comparison: &mut Comparison) -> Result<(), Difference> {
+    let flags = [("EQ", "000000"), ("EQ", "000800")]
+        .map(|(command, reply)| telling_exchange(1, command, reply));
+    for place in 0..PARAMETERS {
+        for before in &flags {
+            for after in &flags {
+                written_over(comparison, place, before, after)?;
+            }
+        }
+    }
+    let telling = TELLING_CHANGED.map(|(command, reply)| telling_exchange(1, command, reply));
+    // A flag that is on stays on whatever is known of the value, so that shorter ones tell.
+    let [off, on] = flags;
+    sequences(comparison, &telling, &mut vec![off], 4)?;
+    sequences(comparison, &telling, &mut vec![on], 3)
+}
+
+/// A parameter's low end and its high end, each written between these exchanges over the low end, known
+/// from PV, and over what is not known.
+fn written_over(
+    comparison: &mut Comparison,
+    place: usize,
+    before: &(Vec<u8>, Vec<u8>),
+    after: &(Vec<u8>, Vec<u8>),
+) -> Result<(), Difference> {
+    let code = parameter_code(place);
+    let (low, high) = VALUE_RANGES[place];
+    let shown = format!("PV {code:03} {low:08}");
+    let shown = telling_exchange(1, &format!("PV {code:03}"), &shown);
+    for value in [low, high] {
+        let written = telling_exchange(1, &format!("PC {code:03} {value}"), "OK");
+        let unknown = [before, &written, after].map(Clone::clone);
+        let known = [before, &shown, &written, after].map(Clone::clone);
+        comparison.judge(&recording::build(1, 2, &unknown))?;
+        comparison.judge(&recording::build(1, 2, &known))?;
+    }
+    Ok(())
 }
 
 /// Every cut, every byte of the header, every combination of wrong header parts, lengths about the

@@ -2,11 +2,12 @@
 
 use crate::generate::requests;
 use crate::random::Random;
+use crate::record::Record;
 
 /// A text of any length up to past the longest, mostly of legal bytes.
 pub fn text(random: &mut Random) -> Vec<u8> {
     if random.percent(20) {
-        return requests::text(random, 1, requests::command);
+        return requests::text(random, &Record::low(), requests::command);
     }
     let length = match random.below(4) {
         0 => random.pick(&[0, 1, 3, 4, 5, 59, 60, 61, 64, 70, 300]),

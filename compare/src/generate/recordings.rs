@@ -6,7 +6,9 @@ use crate::frame::{self, Kind};
 use crate::generate::records::{self, Field};
 use crate::generate::requests;
 use crate::random::Random;
-use crate::record::{factor_place, parameter_code, Record, PARAMETERS, RECIPES, VALUE_RANGES};
+use crate::record::{
+    factor_place, parameter_code, Phase, Record, HIGHEST_LEVEL, PARAMETERS, RECIPES, VALUE_RANGES,
+};
 use crate::recording;
 
 pub type Exchanges = Vec<(Vec<u8>, Vec<u8>)>;
@@ -33,12 +35,8 @@ fn honest(random: &mut Random, count: usize) -> (u8, u8, Exchanges) {
     let mut record = records::record(random);
     let exchanges = (0..count)
         .map(|_| {
-            let mut request = requests::request(
-                random,
-                Kind::Minicomputer,
-                record.address,
-                requests::command,
-            );
+            let mut request =
+                requests::request(random, Kind::Minicomputer, &record, requests::command);
             request.truncate(255);
             exchange(&mut record, request)
         })
@@ -54,8 +52,8 @@ fn another_reply(random: &mut Random, address: u8, reply: &[u8]) -> Vec<u8> {
         return frame::framed(Kind::Minicomputer, text.as_bytes());
     };
     let mut text = text.to_vec();
-    match random.below(13) {
-        12 if text.len() > 8 && text[text.len() - 4..].iter().all(u8::is_ascii_digit) => {
+    match random.below(15) {
+        12..=14 if text.len() > 8 && text[text.len() - 4..].iter().all(u8::is_ascii_digit) => {
             // Numbers at or past the ends of ranges.
             let width = if text.len() == 9 { 4 } else { 8 };
             let number = random.pick(&[0, 1, 7_999, 8_000, 12_000, 12_001, 9_999, 10_000, 10_001]);
@@ -117,20 +115,25 @@ fn another_reply(random: &mut Random, address: u8, reply: &[u8]) -> Vec<u8> {
     frame::framed(Kind::Minicomputer, &text)
 }
 
+/// Values to be written to a parameter: the one that it holds, the ends and the middle of its range.
+fn telling_values(record: &Record, place: usize) -> [u32; 4] {
+    let (low, high) = VALUE_RANGES[place];
+    let held = record.parameters[place].value;
+    [held, low, high, (low + high) / 2]
+}
+
 /// Command texts that have to do with one another, over the parameters at two places, and a field
 /// that they have to do with.
 fn related_commands(
     random: &mut Random,
+    record: &Record,
     recipes: [u8; 2],
     places: [usize; 2],
 ) -> (Vec<String>, Field) {
     let code = |place: usize| format!("{:03}", parameter_code(place));
-    let values = places.map(|place| {
-        let (low, high) = VALUE_RANGES[place];
-        random.pick(&[low, high, (low + high) / 2])
-    });
+    let values = places.map(|place| random.pick(&telling_values(record, place)));
     let [first, second] = places.map(code);
-    let (texts, field) = match random.below(8) {
+    let (texts, field) = match random.below(9) {
         0 => (vec!["TN", "TN", "SB 1", "SA", "SP", "ET"], Field::Number),
         1 => (vec!["RT R", "RT R", "SB 7", "TN", "ET", "SA"], Field::Raw),
         2 => (
@@ -155,6 +158,10 @@ fn related_commands(
         ),
         5 => (vec!["EQ", "AR", "AR", "RS"], Field::Alarms),
         6 => (vec!["EA", "SA", "SP", "SA", "AR"], Field::Alarms),
+        7 => (
+            vec!["EQ", "PC {p} {h}", "PC {p} {v}", "PV {p}", "RE PC", "RC"],
+            random.pick(&[Field::Changed, Field::Value]),
+        ),
         _ => (
             vec!["RS", "RE BD", "RE PC", "SB 1", "PC {p} {v}", "EQ"],
             random.pick(&[Field::Changed, Field::BatchReset]),
@@ -163,6 +170,7 @@ fn related_commands(
     let parts = [
         ("{p}", first),
         ("{q}", second),
+        ("{h}", record.parameters[places[0]].value.to_string()),
         ("{v}", values[0].to_string()),
         ("{w}", values[1].to_string()),
         ("{r}", format!("{:02}", recipes[0])),
@@ -187,7 +195,12 @@ fn related_commands(
 }
 
 /// Command texts of every sort over the parameters at two places.
-fn mixed_commands(random: &mut Random, recipes: [u8; 2], places: [usize; 2]) -> Vec<String> {
+fn mixed_commands(
+    random: &mut Random,
+    record: &Record,
+    recipes: [u8; 2],
+    places: [usize; 2],
+) -> Vec<String> {
     let mut pool: Vec<String> = [
         "EQ", "RS", "TN", "RR", "RC", "RC", "RT R", "SB 1", "SB 500", "SB 0", "SA", "SA", "SP",
         "SP", "ET", "RE BD", "RE PC", "SB 7", "QQ", "EQ ", "EA", "AR", "AR", "EA ", "AR 1",
@@ -199,11 +212,10 @@ fn mixed_commands(random: &mut Random, recipes: [u8; 2], places: [usize; 2]) -> 
     }
     for place in places {
         let code = parameter_code(place);
-        let (low, high) = VALUE_RANGES[place];
         pool.push(format!("PV {code:03}"));
         pool.push(format!("XV {code:03}"));
         pool.push(format!("XV {code:03}"));
-        for value in [low, high, (low + high) / 2] {
+        for value in telling_values(record, place) {
             pool.push(format!("PC {code:03} {value}"));
         }
         for level in 0..=4 {
@@ -217,7 +229,7 @@ fn mixed_commands(random: &mut Random, recipes: [u8; 2], places: [usize; 2]) -> 
 }
 
 /// Few commands over few parameters, those parameters, and a field to jump in.
-fn few_commands(random: &mut Random, address: u8) -> (Vec<Vec<u8>>, [usize; 2], Field) {
+fn few_commands(random: &mut Random, record: &Record) -> (Vec<Vec<u8>>, [usize; 2], Field) {
     let recipes = [1, 2].map(|_| random.between(1, u32::from(RECIPES)) as u8);
     let second = if random.percent(50) {
         factor_place(recipes[1])
@@ -226,14 +238,14 @@ fn few_commands(random: &mut Random, address: u8) -> (Vec<Vec<u8>>, [usize; 2], 
     };
     let places = [factor_place(recipes[0]), second];
     let (texts, field) = if random.percent(70) {
-        related_commands(random, recipes, places)
+        related_commands(random, record, recipes, places)
     } else {
-        let texts = mixed_commands(random, recipes, places);
+        let texts = mixed_commands(random, record, recipes, places);
         (texts, records::field(random))
     };
     let texts = texts
         .iter()
-        .map(|text| format!("{address:02}{text}").into_bytes())
+        .map(|text| format!("{:02}{text}", record.address).into_bytes())
         .collect();
     (texts, places, field)
 }
@@ -248,7 +260,7 @@ pub fn adversarial(random: &mut Random, longest: u32) -> Vec<u8> {
     if random.percent(30) {
         record.access = 3;
     }
-    let (texts, places, related) = few_commands(random, record.address);
+    let (texts, places, related) = few_commands(random, &record);
     let jumps = random.pick(&[0, 3, 8, 20]);
     let count = random.between(1, longest);
     let mut exchanges = Vec::new();
@@ -266,6 +278,94 @@ pub fn adversarial(random: &mut Random, longest: u32) -> Vec<u8> {
     }
     if random.percent(15) {
         change_one(random, record.address, &mut exchanges);
+    }
+    recording::build(record.address, record.access, &exchanges)
+}
+
+/// Requests in an order that tells, each with the cases of a hundred in which it is sent, and the field
+/// that they tell of.
+fn telling_order(
+    random: &mut Random,
+    record: &Record,
+    place: usize,
+) -> (Vec<(usize, String)>, Field) {
+    let code = parameter_code(place);
+    let mut write = || {
+        let value = random.pick(&telling_values(record, place));
+        format!("PC {code:03} {value}")
+    };
+    let (first, second) = (write(), write());
+    let value = format!("PV {code:03}");
+    let level = format!("XV {code:03}");
+    let write_level = format!("XC {code:03} {}", records::level(random));
+    let (steps, field) = match random.below(3) {
+        0 => (
+            vec![
+                (50, "EQ"),
+                (30, &value),
+                (10, "RC"),
+                (20, &first),
+                (20, "RE PC"),
+                (30, "EQ"),
+                (100, &second),
+                (100, random.pick(&["EQ", "RS"])),
+            ],
+            Field::Changed,
+        ),
+        1 => (
+            vec![
+                (30, &level[..]),
+                (60, &first),
+                (50, &write_level),
+                (50, &second),
+                (100, &level),
+            ],
+            Field::Level,
+        ),
+        _ => (
+            vec![
+                (30, "EQ"),
+                (20, "EA"),
+                (40, "AR"),
+                (30, "EQ"),
+                (60, "SA"),
+                (20, "AR"),
+                (100, random.pick(&["EQ", "EA", "RS"])),
+            ],
+            Field::Alarms,
+        ),
+    };
+    let steps = steps
+        .into_iter()
+        .map(|(cases, text)| (cases, text.to_string()));
+    (steps.collect(), field)
+}
+
+/// Requests in an order that tells, mostly accepted, where the field that they tell of jumps now and
+/// then.
+pub fn ordered(random: &mut Random) -> Vec<u8> {
+    let mut record = records::record(random);
+    let place = records::place(random);
+    let (steps, field) = telling_order(random, &record, place);
+    record.keypad = false;
+    record.phase = random.pick(match field {
+        Field::Alarms => &[Phase::Set, Phase::Stopped],
+        _ => &[Phase::Idle, Phase::Done],
+    });
+    if let Field::Changed = field {
+        record.access = HIGHEST_LEVEL;
+    }
+    let mut exchanges = Vec::new();
+    for (cases, text) in steps {
+        if !random.percent(cases) {
+            continue;
+        }
+        if random.percent(25) {
+            records::jump(random, &mut record, field, &[place]);
+        }
+        let text = format!("{:02}{text}", record.address);
+        let request = frame::framed(Kind::Minicomputer, text.as_bytes());
+        exchanges.push(exchange(&mut record, request));
     }
     recording::build(record.address, record.access, &exchanges)
 }
@@ -351,7 +451,7 @@ pub fn long(
     let mut total = 5;
     loop {
         let mut text = format!("{address:02}").into_bytes();
-        text.extend(command(random).bytes());
+        text.extend(command(random, &record).bytes());
         let request = frame::framed(Kind::Minicomputer, &text);
         let made = exchange(&mut record, request);
         total += 2 + made.0.len() + made.1.len();
@@ -386,7 +486,7 @@ fn long_or_too_long(random: &mut Random) -> Vec<u8> {
 /// A recording of any sort.
 pub fn recording(random: &mut Random) -> Vec<u8> {
     let count = random.below(40);
-    match random.below(200) {
+    match random.below(240) {
         0..=29 => {
             let (address, access, exchanges) = honest(random, count);
             recording::build(address, access, &exchanges)
@@ -409,6 +509,7 @@ pub fn recording(random: &mut Random) -> Vec<u8> {
             damage(random, &mut bytes);
             bytes
         }
+        198..=237 => ordered(random),
         _ => long_or_too_long(random),
     }
 }

@@ -4,7 +4,7 @@ use crate::command::CODES;
 use crate::frame::{self, Kind};
 use crate::generate::records;
 use crate::random::Random;
-use crate::record::{parameter_code, VALUE_RANGES};
+use crate::record::{parameter_code, Record, VALUE_RANGES};
 
 /// A number printed in its least width or wider.
 fn printed(random: &mut Random, number: u32, most: usize) -> String {
@@ -31,18 +31,31 @@ fn parameter(random: &mut Random) -> (String, (u32, u32)) {
     (format!("{:03}", parameter_code(place)), VALUE_RANGES[place])
 }
 
-/// Makes code and arguments of some command in its right form.
-pub type Commands = fn(&mut Random) -> String;
+/// Makes code and arguments of some command in its right form, to a controller with this record.
+pub type Commands = fn(&mut Random, &Record) -> String;
 
 /// Any command.
-pub fn command(random: &mut Random) -> String {
-    if random.percent(15) {
-        random
+pub fn command(random: &mut Random, record: &Record) -> String {
+    match random.below(100) {
+        0..=14 => random
             .pick(&["EA", "AR", "EA", "AR", "SA", "EQ", "RS"])
-            .into()
-    } else {
-        command_of_document_01(random)
+            .into(),
+        15..=19 => reload(random, record),
+        _ => command_of_document_01(random),
     }
+}
+
+/// A PC of the value that the parameter holds, now and then of one that another parameter holds.
+fn reload(random: &mut Random, record: &Record) -> String {
+    let place = records::place(random);
+    let from = if random.percent(25) {
+        records::place(random)
+    } else {
+        place
+    };
+    let value = record.parameters[from].value;
+    let code = parameter_code(place);
+    format!("PC {code:03} {}", printed(random, value, 8))
 }
 
 /// Any command that document 01 has, arguments often at or past an edge.
@@ -136,16 +149,16 @@ fn malform(random: &mut Random, text: &mut Vec<u8>) {
     }
 }
 
-/// A request's text for a controller of this address.
-pub fn text(random: &mut Random, address: u8, command: Commands) -> Vec<u8> {
+/// A request's text for a controller with this record.
+pub fn text(random: &mut Random, record: &Record, command: Commands) -> Vec<u8> {
     let address = match random.below(30) {
         0 => "00".into(),
         1 => format!("{:02}", random.below(100)),
-        2 => format!("{:02}", (address % 99) + 1),
+        2 => format!("{:02}", (record.address % 99) + 1),
         3 => random.pick(&["0A", "A0", " 1", "1 ", "/1", "0:"]).into(),
-        _ => format!("{address:02}"),
+        _ => format!("{:02}", record.address),
     };
-    let mut text = format!("{address}{}", command(random)).into_bytes();
+    let mut text = format!("{address}{}", command(random, record)).into_bytes();
     if random.percent(12) {
         malform(random, &mut text);
         if random.percent(30) {
@@ -192,7 +205,7 @@ fn damage(random: &mut Random, kind: Kind, frame: &mut Vec<u8>) {
 }
 
 /// A request frame, seldom one of the other kind, now and then damaged or noise.
-pub fn request(random: &mut Random, kind: Kind, address: u8, command: Commands) -> Vec<u8> {
+pub fn request(random: &mut Random, kind: Kind, record: &Record, command: Commands) -> Vec<u8> {
     let other = match kind {
         Kind::Minicomputer => Kind::Terminal,
         Kind::Terminal => Kind::Minicomputer,
@@ -209,20 +222,20 @@ pub fn request(random: &mut Random, kind: Kind, address: u8, command: Commands) 
         4..=8 => {
             // Marks and check as they should be around a text of any length.
             let length = random.below(71);
-            let mut bytes = text(random, address, command);
+            let mut bytes = text(random, record, command);
             while bytes.len() < length {
                 bytes.push(character(random));
             }
             frame::framed(kind, &bytes[..length])
         }
-        9 => frame::framed(other, &text(random, address, command)),
+        9 => frame::framed(other, &text(random, record, command)),
         10..=27 => {
-            let mut frame = frame::framed(kind, &text(random, address, command));
+            let mut frame = frame::framed(kind, &text(random, record, command));
             for _ in 0..random.between(1, 3) {
                 damage(random, kind, &mut frame);
             }
             frame
         }
-        _ => frame::framed(kind, &text(random, address, command)),
+        _ => frame::framed(kind, &text(random, record, command)),
     }
 }

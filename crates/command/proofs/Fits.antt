@@ -154,8 +154,8 @@ asked-sound t =
 
 -- ---- what a sound request changes fits the record
 flag-fits : (b : Bool) → Fitting ((pick b reset changed ≔ off) ∷ [])
-flag-fits true = (omega arith, omega arith, refl, tt)
-flag-fits false = (omega arith, omega arith, refl, tt)
+flag-fits true = ((omega arith, omega arith, refl), tt)
+flag-fits false = ((omega arith, omega arith, refl), tt)
 
 infixr 20 _also_
 pub _also_ : {A B : Type 0} → A → B → A × B
@@ -170,29 +170,21 @@ effect-fits c x s = by-member (λ (d : ℕ). Sound d x → Fitting (rowOf d comm
         -- EQ, RS, TN, RR, RC, RT, PV, XV
         (λ s. tt) also (λ s. tt) also (λ s. tt) also (λ s. tt) also (λ s. tt) also (λ s. tt) also (λ s. tt) also (λ s. tt) also
         -- PC
-        (λ s. let l = s .placed refl in (omega arith, omega arith, s .valued refl, (omega arith, omega arith, refl, tt))) also
+        (λ s. ((s .placed refl, s .valued refl), tt)) also
         -- XC
-        (λ s. let l = s .placed refl in (omega arith, omega arith, s .levelled refl, tt)) also
+        (λ s. let l = s .placed refl in ((omega arith, omega arith, s .levelled refl), tt)) also
         -- NR
-        (λ s. (omega arith, omega arith, s .among refl, tt)) also
+        (λ s. ((omega arith, omega arith, s .among refl), tt)) also
         -- SB
-        (λ s. (
-          omega arith,
-          omega arith,
-          refl,
-          (
-            omega arith,
-            omega arith,
-            s .counted refl,
-            (omega arith, omega arith, refl, (omega arith, omega arith, refl, tt)),
-          ),
-        )) also
+        (λ s.
+        (omega arith, omega arith, refl) also (omega arith, omega arith, s .counted refl) also (omega arith, omega arith, refl) also
+        (omega arith, omega arith, refl) also tt also tt) also
         -- SA, SP, ET
-        (λ s. (omega arith, omega arith, refl, tt)) also (λ s. (omega arith, omega arith, refl, tt)) also (λ s. (omega arith, omega arith, refl, tt)) also
+        (λ s. ((omega arith, omega arith, refl), tt)) also (λ s. ((omega arith, omega arith, refl), tt)) also (λ s. ((omega arith, omega arith, refl), tt)) also
         -- RE
         (λ s. flag-fits (equal (x .word) (text "BD"))) also
         -- EA, AR
-        (λ s. tt) also (λ s. tt) also
+        (λ s. tt) also (λ s. (tt, tt)) also
         tt
 
 -- what an accepted text changes fits the record

@@ -1,9 +1,10 @@
 -- One law for each return of the functions that decide a write and carry it out. Assumes nothing.
 use Prim.Native.Nat.{ℕ, _≤_, _<_}
-use mathlib.Core.Bool.{Bool, true, false, not, or-true}
+use mathlib.Core.Bool.{Bool, true, false, not, _||_, or-true}
 use mathlib.Core.Path.{_≡_, refl, sym, ap, _∙_}
 use mathlib.Core.List.{List, [], _∷_, _++_}
 use native.Mathlib.Omega.{arith}
+use lib.Dec.{eqb}
 use lib.ListN.{length, getD, set}
 use lib.Seq.{set-out}
 use borrow.Author.Tests.{eq-eqb, ne-eqb, lt-ltb, le-ltb, not-true, not-false}
@@ -12,8 +13,9 @@ use Rattle.state.specs.declared.Place.{Place}
 use Rattle.state.specs.declared.Place.the-variants.{At, Nothing}
 use Rattle.base.specs.Test.{pick, member}
 use Rattle.state.specs.Parameter.{parameterCount, placeOf}
-use Rattle.state.specs.Field.{changed, level, access, get, put, phaseNumber, on}
-use Rattle.state.proofs.Fields.{withLists, put-value, put-level}
+use Rattle.state.specs.Field.{changed, value, level, access, get, put, phaseNumber, flagNumber, on}
+use Rattle.state.specs.Event.{flagAfter}
+use Rattle.state.proofs.Fields.{withParts, withLists, put-changed, put-value, put-level}
 use Rattle.command.specs.declared.Reading.{Reading}
 use Rattle.command.specs.declared.Reading.the-variants as reading
 use Rattle.command.specs.declared.Writing.{Writing}
@@ -138,15 +140,32 @@ pub ruleset alarm-deciding = (guard-untested, alarms-on, alarms-off)
 
 pub ruleset phase-deciding = (phase-tested, phase-untested, phases-as, among-yes, among-no)
 
--- ---- stores to the lists
-module _ (i n : ℕ) (r s : Record) where
-  pub value-stored : s ≡ withLists (set (r .values) i n) (r .levels) (put changed on r) → s ≡ applied (changesOf (writingAs (writing.SetValue i n))) r
-  unfolding applied put rowOf
-  value-stored e = e ∙ put-value i n (put changed on r)
+-- ---- what PC and XC store
 
-  pub value-beyond : length (r .values) ≡ parameterCount → parameterCount ≤ i → s ≡ put changed on r → s ≡ applied (changesOf (writingAs (writing.SetValue i n))) r
-  unfolding put
-  value-beyond l h e = value-stored (e ∙ ap (λ (vs : List ℕ). withLists vs (r .levels) (put changed on r)) (sym (set-out (r .values) i n (omega arith))))
+-- the flag: on if the value m that is held differs, else as it was
+flag-stored : (b : Bool) (m n : ℕ) → flagNumber (b || not (eqb m n)) ≡ flagAfter m n (flagNumber b)
+flag-stored b m n = go b (eqb m n)
+  where
+    go : (b t : Bool) → flagNumber (b || not t) ≡ pick t (flagNumber b) on
+    go true true = refl
+    go true false = refl
+    go false true = refl
+    go false false = refl
+
+module _ (i n : ℕ) (r s : Record) where
+  module _ (m : ℕ) (held : m ≡ get (value i) r) where
+    abbrev flag : Bool
+    flag = r .changed || not (eqb m n)
+
+    pub value-stored : s ≡ withParts flag (set (r .values) i n) (r .levels) r → s ≡ applied (changesOf (writingAs (writing.SetValue i n))) r
+    unfolding applied put rowOf
+    value-stored e =
+        e ∙ (ap (withLists (set (r .values) i n) (r .levels)) (put-changed flag r) ∙ (put-value i n (put changed (flagNumber flag) r)
+        ∙ ap (λ (k : ℕ). put (value i) n (put changed k r)) (flag-stored (r .changed) m n ∙ ap (λ (k : ℕ). flagAfter k n (get changed r)) held)))
+
+    pub value-beyond : length (r .values) ≡ parameterCount → parameterCount ≤ i → s ≡ withParts flag (r .values) (r .levels) r
+        → s ≡ applied (changesOf (writingAs (writing.SetValue i n))) r
+    value-beyond l h e = value-stored (e ∙ ap (λ (vs : List ℕ). withParts flag vs (r .levels) r) (sym (set-out (r .values) i n (omega arith))))
 
   pub level-stored : s ≡ withLists (r .values) (set (r .levels) i n) r → s ≡ put (level i) n r
   level-stored e = e ∙ put-level i n r

@@ -2,7 +2,7 @@
 -- request changes exactly the fields of its row. Assumes nothing.
 use Prim.Native.Nat.{ℕ, zero, suc, _<_}
 use mathlib.Core.Bool.{Bool, true, false}
-use mathlib.Core.Path.{_≡_, refl, sym, ap, _∙_}
+use mathlib.Core.Path.{_≡_, refl, sym, ap, ap₂, _∙_}
 use mathlib.Core.List.{List, [], _∷_}
 use native.Mathlib.Nat.{not-suc-le-zero, le-of-suc-le-suc}
 use native.Mathlib.Omega.{arith}
@@ -13,13 +13,14 @@ use Rattle.base.proofs.Tests.{by-test}
 use Rattle.state.specs.declared.Record.{Record}
 use Rattle.base.specs.Test.{pick}
 use Rattle.state.specs.Alarm.{lasting}
-use Rattle.state.specs.Field.{Field, access, number, alarms, get, put, position, fieldRange}
+use Rattle.state.specs.Parameter.{parameterCount, rangeAt}
+use Rattle.state.specs.Field.{Field, access, changed, number, alarms, value, get, put, position, fieldRange}
 use Rattle.state.specs.Valid.{within, valid}
 use Rattle.state.proofs.Fields.{Held, same-field, get-put-same, get-put-other}
 use Rattle.state.proofs.Validity.{valid-tell}
-use Rattle.state.proofs.Kept.{put-kept, next-in, lasting-in, reset-kept}
-use Rattle.state.specs.Event.{nextNumber}
-use Rattle.command.specs.Commands.{Change, becomes, nextBatch, resetAlarms, applied}
+use Rattle.state.proofs.Kept.{put-kept, next-in, lasting-in, reset-kept, flag-in, replaced-kept}
+use Rattle.state.specs.Event.{nextNumber, flagAfter}
+use Rattle.command.specs.Commands.{Change, becomes, nextBatch, resetAlarms, newValue, afterChange, applied}
 use Rattle.command.specs.Refusals.{Row, byText, applies, rowNumber}
 use Rattle.command.specs.Answer.{NO, accepted, firstOf}
 
@@ -84,67 +85,76 @@ module _ (c : ℕ) (xs : List ℕ) (r : Record) where
 
 -- ---- the fields that changes leave
 
--- the field that a change names, and the number it gets where it held n
-abbrev pub fieldOf : Change → Field
-fieldOf (becomes f m) = f
-fieldOf nextBatch = number
-fieldOf resetAlarms = alarms
+-- what each field holds, with n in one of them
+abbrev pub assigned : Field → ℕ → (Field → ℕ) → Field → ℕ
+assigned f n w g = pick (eqb (position f) (position g)) n (w g)
 
-abbrev pub given : Change → ℕ → ℕ
-given (becomes f m) n = m
-given nextBatch n = nextNumber n
-given resetAlarms n = lasting n
+-- what each field holds after a change, by what it held: another number only where the change names it
+abbrev pub given : Change → (Field → ℕ) → Field → ℕ
+given (becomes f n) w = assigned f n w
+given nextBatch w = assigned number (nextNumber (w number)) w
+given resetAlarms w = assigned alarms (lasting (w alarms)) w
+given (newValue i n) w = assigned (value i) n (assigned changed (flagAfter (w (value i)) n (w changed)) w)
 
--- a field's number after changes: that of the first change that names it, or the one it had
+-- what a field holds after changes
 unfoldable pub numberAfter : Field → List Change → Record → ℕ
 numberAfter g [] r = get g r
-numberAfter g (c ∷ cs) r = pick (eqb (position (fieldOf c)) (position g)) (given c (numberAfter (fieldOf c) cs r)) (numberAfter g cs r)
+numberAfter g (c ∷ cs) r = given c (λ f. numberAfter f cs r) g
 
--- each change names one of the record's fields, not the address or the access, and a number within its range
+-- a change names fields of the record, not the address or the access, and numbers within their ranges
+abbrev pub FitsRecord : Change → Type 0
+FitsRecord (becomes f n) = Held f × (position access < position f) × (within (fieldRange f) n ≡ true)
+FitsRecord nextBatch = Unit {0}
+FitsRecord resetAlarms = Unit {0}
+FitsRecord (newValue i n) = (i < parameterCount) × (within (rangeAt i) n ≡ true)
+
 abbrev pub Fitting : List Change → Type 0
 Fitting [] = Unit {0}
-Fitting (becomes f n ∷ cs) = Held f × (position access < position f) × (within (fieldRange f) n ≡ true) × Fitting cs
-Fitting (nextBatch ∷ cs) = Fitting cs
-Fitting (resetAlarms ∷ cs) = Fitting cs
+Fitting (c ∷ cs) = FitsRecord c × Fitting cs
 
+-- ---- one change, of a valid record whose fields hold w
+module _ (s : Record) (v : valid s ≡ true) where
+  change-valid : (c : Change) → FitsRecord c → valid (afterChange c s) ≡ true
+  change-valid (becomes f n) h = put-kept s v f n (h .2)
+  change-valid nextBatch h = put-kept s v number (nextNumber (get number s)) (next-in s v)
+  change-valid resetAlarms h = reset-kept s v
+  change-valid (newValue i n) h = replaced-kept s v changed (omega arith) refl (value i) n (h .1)
+
+  module _ (w : Field → ℕ) (before : (g : Field) → get g s ≡ w g) where
+    -- a number put into a field shows there, and each other field holds what it held
+    pub put-reads : (f : Field) (n m : ℕ) → Held f → within (fieldRange f) n ≡ true → n ≡ m → (g : Field) → get g (put f n s) ≡ assigned f m w g
+    put-reads f n m h i e g =
+        by-test (eqb (position f) (position g))
+        (λ same.
+        let t = valid-tell s v in
+        let q : f ≡ g = same-field f g (eqb-true _ _ same) in
+        simp same (ap (λ (x : Field). get x (put f n s)) (sym q) ∙ (get-put-same s (t .values-length) (t .levels-length) f n h i ∙ e)))
+        (λ other. simp other (get-put-other f g n s (eqb-false _ _ other) ∙ before g))
+
+change-reads : (s : Record) → valid s ≡ true → (w : Field → ℕ) → ((g : Field) → get g s ≡ w g)
+    → (c : Change) → FitsRecord c → (g : Field) → get g (afterChange c s) ≡ given c w g
+change-reads s v w before (becomes f n) h g = put-reads s v w before f n n (h .0) (h .2) refl g
+change-reads s v w before nextBatch h g = put-reads s v w before number _ _ (omega arith) (next-in s v) (ap nextNumber (before number)) g
+change-reads s v w before resetAlarms h g = put-reads s v w before alarms _ _ (omega arith) (lasting-in s v) (ap lasting (before alarms)) g
+-- the flag, and then the value
+change-reads s v w before (newValue i n) h g =
+    let l = h .0 in
+    let flag = flagAfter (get (value i) s) n (get changed s) in
+    let inside = flag-in s v changed (omega arith) refl (get (value i) s) n in
+    put-reads (put changed flag s) (put-kept s v changed flag inside) _
+    (put-reads s v w before changed flag _ (omega arith) inside (ap₂ (λ (m k : ℕ). flagAfter m n k) (before (value i)) (before changed))) (value i) n n
+    (omega arith) (h .1) refl g
+
+-- ---- changes
 module _ (r : Record) (v : valid r ≡ true) where
   -- a valid record stays valid
   pub applied-valid : (cs : List Change) → Fitting cs → valid (applied cs r) ≡ true
   unfolding applied
   applied-valid [] f = v
-  applied-valid (becomes g n ∷ cs) f = put-kept (applied cs r) (applied-valid cs (f .3)) g n (f .2)
-  applied-valid (nextBatch ∷ cs) f = let w = applied-valid cs f in put-kept (applied cs r) w number (nextNumber (get number (applied cs r))) (next-in (applied cs r) w)
-  applied-valid (resetAlarms ∷ cs) f = reset-kept (applied cs r) (applied-valid cs f)
-
-  -- a number put into a field shows there, and no other field shows it
-  put-reads : (s : Record) → valid s ≡ true → (f g : Field) (n : ℕ) → Held f → within (fieldRange f) n ≡ true
-      → get g (put f n s) ≡ pick (eqb (position f) (position g)) n (get g s)
-  put-reads s w f g n h i =
-      by-test (eqb (position f) (position g))
-      (λ e.
-      let t = valid-tell s w in
-      let q : f ≡ g = same-field f g (eqb-true _ _ e) in
-      simp e (ap (λ (x : Field). get x (put f n s)) (sym q) ∙ get-put-same s (t .values-length) (t .levels-length) f n h i))
-      (λ e. simp e (get-put-other f g n s (eqb-false _ _ e)))
-
-  -- a field gets another number by the one it held
-  step-reads : (f : Field) (step : ℕ → ℕ) → Held f → (cs : List Change) → valid (applied cs r) ≡ true → within (fieldRange f) (step (get f (applied cs r))) ≡ true
-      → ((g : Field) → get g (applied cs r) ≡ numberAfter g cs r) → (g : Field)
-      → get g (put f (step (get f (applied cs r))) (applied cs r)) ≡ pick (eqb (position f) (position g)) (step (numberAfter f cs r)) (numberAfter g cs r)
-  step-reads f step h cs w i before g =
-      put-reads (applied cs r) w f g (step (get f (applied cs r))) h i
-      ∙ ap (λ (n : ℕ). pick (eqb (position f) (position g)) (step n) (get g (applied cs r))) (before f)
-      ∙ ap (pick (eqb (position f) (position g)) (step (numberAfter f cs r))) (before g)
+  applied-valid (c ∷ cs) f = change-valid (applied cs r) (applied-valid cs (f .1)) c (f .0)
 
   -- every field holds what the changes say, and all others what they held
   pub applied-reads : (cs : List Change) → Fitting cs → (g : Field) → get g (applied cs r) ≡ numberAfter g cs r
   unfolding applied numberAfter
   applied-reads [] f g = refl
-  applied-reads (becomes h n ∷ cs) f g =
-      put-reads (applied cs r) (applied-valid cs (f .3)) h g n (f .0) (f .2) ∙ ap (pick (eqb (position h) (position g)) n) (applied-reads cs (f .3) g)
-  applied-reads (nextBatch ∷ cs) f g =
-      let w = applied-valid cs f in
-      step-reads number (λ n. nextNumber n) (omega arith) cs w (next-in (applied cs r) w) (applied-reads cs f) g
-  applied-reads (resetAlarms ∷ cs) f g =
-      let w = applied-valid cs f in
-      step-reads alarms (λ n. lasting n) (omega arith) cs w (lasting-in (applied cs r) w) (applied-reads cs f) g
+  applied-reads (c ∷ cs) f g = change-reads (applied cs r) (applied-valid cs (f .1)) (λ x. numberAfter x cs r) (applied-reads cs (f .1)) c (f .0) g

@@ -1,4 +1,5 @@
--- Document 01, "Commands", first table, with the rows of 02, L1: each request's code, the form of its arguments, its reply if accepted, and its effect.
+-- Document 01, "Commands", first table, with the rows of 02, L1, and PC's flag by 02, L2: each request's code, the form of its arguments, its
+-- reply if accepted, and its effect.
 use Prim.Native.Nat.{ℕ, _+_, _-_, _*_}
 use mathlib.Core.Bool.{Bool, true, false, _&&_}
 use mathlib.Core.List.{List, [], _∷_, _++_}
@@ -11,7 +12,7 @@ use Rattle.state.specs.declared.Place.the-variants.{At, Nothing}
 use Rattle.base.specs.Test.{pick, between}
 use Rattle.state.specs.Parameter.{parameterCount, placeOf, codeAt}
 use Rattle.state.specs.Field.{Field, phase, changed, reset, recipe, preset, raw, number, alarms, value, level, get, put, on, off}
-use Rattle.state.specs.Event.{idle, set, running, stopped, nextNumber, alarmsReset}
+use Rattle.state.specs.Event.{idle, set, running, stopped, nextNumber, alarmsReset, replaced}
 use Rattle.text.specs.Word.{space, digits, allDigits, valueOf, equal, oneOf}
 use Rattle.command.specs.Status.{statusCharacters, alarmCharacters, statusCodes, codesOn}
 
@@ -183,7 +184,7 @@ printed (numbered w n f) r = w ++ digits n (get f r)
 printed composition r = (text "RC " ++ digits 2 (get recipe r)) ++ (space ∷ digits 8 (get (value (factorPlace (get recipe r))) r))
 printed systemAlarms r = alarmCharacters (get alarms r)
 
--- ---- effects: one field's new number each
+-- ---- effects
 pub data Change : Type 0 where
   -- the field gets this number
   becomes : Field → ℕ → Change
@@ -191,6 +192,8 @@ pub data Change : Type 0 where
   nextBatch : Change
   -- AR: "switches off PA and U1 to U5; the others stay"
   resetAlarms : Change
+  -- PC: the value at a place becomes n, and "changed" is switched on "exactly if the value differs from the one held; else the flag stays"
+  newValue : ℕ → ℕ → Change
 
 infix 70 _≔_
 abbrev pub _≔_ : Field → ℕ → Change
@@ -200,6 +203,7 @@ abbrev pub afterChange : Change → Record → Record
 afterChange (becomes f n) r = put f n r
 afterChange nextBatch r = put number (nextNumber (get number r)) r
 afterChange resetAlarms r = alarmsReset r
+afterChange (newValue i n) r = replaced (value i) n changed r
 
 unfoldable pub applied : List Change → Record → Record
 applied [] r = r
@@ -233,7 +237,8 @@ commands =
     ∷ reads RT (words (text "R" ∷ [])) (λ a. numbered (text "RT R ") 8 raw)
     ∷ reads PV parameter (λ a. numbered (parameterLabel (text "PV ") (a .place)) 8 (value (a .place)))
     ∷ reads XV parameter (λ a. numbered (parameterLabel (text "XV ") (a .place)) 1 (level (a .place)))
-    ∷ writes PC (parameterAnd 1 8) (λ a. (value (a .place) ≔ a .number) ∷ (changed ≔ on) ∷ [])
+    -- 01: "value v; changed on"; amended by 02, L2: on "exactly if the value differs from the one held; else the flag stays"
+    ∷ writes PC (parameterAnd 1 8) (λ a. newValue (a .place) (a .number) ∷ [])
     ∷ writes XC (parameterAnd 1 1) (λ a. (level (a .place) ≔ a .number) ∷ [])
     ∷ writes NR (aNumber 2 2) (λ a. (recipe ≔ a .number) ∷ [])
     ∷ writes SB (aNumber 1 6) (λ a. (phase ≔ set) ∷ (preset ≔ a .number) ∷ (raw ≔ 0) ∷ (reset ≔ on) ∷ nextBatch ∷ [])

@@ -572,7 +572,8 @@ fn by_record(r: Record, guards: Guards) -> Decision
 fn with_value(mut r: Record, place: usize, value: u32) -> Record
     ensures { λ s. ⌜ s ≡ applied (changesOf (writingAs (Writing.SetValue place value))) r ⌝ }
 {
-    r.changed = true;
+    // Switched on exactly if the value differs from the one held; else the flag stays.
+    r.changed = r.changed | (r.value_at(place) != value);
     if place < PARAMETERS {
         r.values[place] = value;
         return r;

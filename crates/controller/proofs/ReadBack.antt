@@ -6,10 +6,11 @@ use mathlib.Core.Path.{_≡_, refl, sym, ap, subst, _∙_}
 use mathlib.Core.List.{List, [], _∷_, _++_}
 use mathlib.Core.Logic.{⊎-elim}
 use native.Mathlib.Omega.{arith}
+use lib.Dec.{eqb}
 use lib.ListN.{length}
 use borrow.Author.Tests.{le-leb, eq-eqb, ne-eqb, lt-ltb}
 use Rattle.base.specs.Text.{text}
-use Rattle.base.specs.Test.{allBetween}
+use Rattle.base.specs.Test.{pick, allBetween}
 use Rattle.state.specs.declared.Record.{Record}
 use Rattle.state.specs.declared.Place.the-variants.{At}
 use Rattle.state.specs.Parameter.{recipes, parameterCount, placeOf}
@@ -26,12 +27,11 @@ use Rattle.frame.proofs.Laws.{found}
 use Rattle.frame.proofs.RoundTrip.{frame-located}
 use Rattle.text.specs.Word.{space, digits, valueOf, equal}
 use Rattle.command.specs.Status.{statusCharacters, alarmCharacters, statusCodes, codesOn}
-use Rattle.command.specs.Commands.{EQ, RS, TN, RR, RC, RT, PV, XV, EA, AR, codeIn, formed, digitsBetween, Arguments, none, aPlace, aWord, placeNumber, placeFor, parameterLabel, factorPlace, printed, Change, _≔_, applied, commands, rowOf}
+use Rattle.command.specs.Commands.{EQ, RS, TN, RR, RC, RT, PV, XV, EA, AR, codeIn, formed, digitsBetween, Arguments, none, aPlace, aWord, placeNumber, placeFor, parameterLabel, factorPlace, printed, Change, applied, commands, rowOf}
 use Rattle.command.specs.Refusals.{refusals}
 use Rattle.command.specs.Answer.{Verdict, accepted, replyText, recordAfter}
 use Rattle.command.specs.Request.{Asked, asked, firstByText, firstByArguments, askedWith, askedFor, askedIn, Guard, guardsIn, guarded, Answered, shows, servedBy, servedOf}
 use Rattle.text.proofs.Words.{value-digits, digits-all}
-use Rattle.command.proofs.Tables.{numberAfter}
 use Rattle.command.proofs.Agree.{record-by-steps}
 use Rattle.reply.specs.Reply.{textFor}
 use Rattle.reply.proofs.Laws.{Text, text-wider, text-joined, text-word, text-digits, text-labelled}
@@ -203,14 +203,9 @@ module _ (k : Kind) (s : Record) (o : List ℕ) (v : valid s ≡ true) (room : 6
 pub composition-same : (a b x y : ℕ) → a ≡ b → x ≡ y → composed a x ≡ composed b y
 composition-same a b x y e f = cc
 
--- ---- a field after changes
+-- ---- a field after a change: the number that a field gets is held there and by no other field
+pub held-there : (f : Field) (n m : ℕ) → pick (eqb (position f) (position f)) n m ≡ n
+held-there f n m = simp (eq-eqb (position f) (position f) refl)
 
--- a change of another field does not show
-pub skipped : (f g : Field) (n : ℕ) (cs : List Change) (r : Record) → (position f ≡ position g → ⊥) → numberAfter g ((f ≔ n) ∷ cs) r ≡ numberAfter g cs r
-unfolding numberAfter
-skipped f g n cs r h = simp (ne-eqb (position f) (position g) h)
-
--- the first change shows
-pub shown-first : (f : Field) (n : ℕ) (cs : List Change) (r : Record) → numberAfter f ((f ≔ n) ∷ cs) r ≡ n
-unfolding numberAfter
-shown-first f n cs r = simp (eq-eqb (position f) (position f) refl)
+pub held-elsewhere : (f g : Field) (n m : ℕ) → (position f ≡ position g → ⊥) → pick (eqb (position f) (position g)) n m ≡ m
+held-elsewhere f g n m h = simp (ne-eqb (position f) (position g) h)

@@ -7,7 +7,7 @@ use mathlib.Core.Logic.{_⊎_, inl, inr, ⊎-elim}
 use native.Mathlib.Omega.{arith}
 use lib.Dec.{eqb, leb}
 use lib.ListN.{length, take, drop, getD}
-use borrow.Author.Tests.{leb-true, ne-eqb}
+use borrow.Author.Tests.{leb-true}
 use Rattle.base.specs.Text.{text}
 use Rattle.state.specs.declared.Record.{Record}
 use Rattle.state.specs.declared.Place.{Place}
@@ -15,9 +15,11 @@ use Rattle.state.specs.declared.Place.the-variants.{At, Nothing}
 use Rattle.base.specs.Test.{pick}
 use Rattle.state.specs.Parameter.{parameterCount, placeOf}
 use Rattle.state.specs.Alarm.{lasting}
-use Rattle.state.specs.Field.{Field, address, phase, changed, reset, recipe, preset, raw, number, alarms, value, level, position, get, put, on, flagNumber}
+use Rattle.state.specs.Field.{Field, address, phase, changed, reset, recipe, preset, raw, number, alarms, value, level, get, put, on, flagNumber}
 use Rattle.state.specs.Valid.{valid}
-use Rattle.state.specs.Event.{set, nextNumber, alarmsReset}
+use Rattle.state.specs.Event.{set, nextNumber, alarmsReset, flagAfter, replaced}
+use Rattle.state.proofs.Fields.{pick-same, put-value}
+use Rattle.state.proofs.Whole.{replaced-same, replaced-other}
 use Rattle.frame.specs.declared.Kind.{Kind}
 use Rattle.frame.specs.declared.Kind.the-variants.{Minicomputer, Terminal}
 use Rattle.frame.specs.Frame.{allText, namesUnit, addressIn, frameOf, textIn, withinLimits, marksRight, checkRight}
@@ -28,19 +30,19 @@ use Rattle.frame.proofs.Laws.{frame-length, framed-built}
 use Rattle.frame.proofs.RoundTrip.{read-built}
 use Rattle.text.specs.Word.{space, digits, valueOf}
 use Rattle.command.specs.Status.{Bit, characters, weightIn, statusCharacters, alarmCharacters, Code, statusCodes, codesOn}
-use Rattle.command.specs.Commands.{PV, XV, PC, XC, NR, SB, AR, codeIn, Arguments, placeNumber, placeFor, applied, commands, rowOf, factorPlace, Change, becomes, _≔_, nextBatch, resetAlarms}
+use Rattle.command.specs.Commands.{PV, XV, PC, XC, NR, SB, AR, codeIn, Arguments, placeNumber, placeFor, applied, commands, rowOf, factorPlace, Change, becomes, _≔_, nextBatch, resetAlarms, newValue}
 use Rattle.command.specs.Refusals.{refusals, rowNumber, applies, of, argumentsFor}
 use Rattle.command.specs.Answer.{Verdict, NO, behindCode, argumentsIn, verdict, recordFor, replyText, recordAfter}
 use Rattle.command.specs.Answer as tables
 use Rattle.command.specs.Request.{askedIn}
 use Rattle.base.proofs.Tests.{by-test}
-use Rattle.command.proofs.Tables.{FirstAt, noRow, first-goes-out, by-first, none-applies, accepted-if-none, numberAfter, Fitting, applied-valid, applied-reads}
+use Rattle.command.proofs.Tables.{FirstAt, noRow, first-goes-out, by-first, none-applies, accepted-if-none, assigned, given, numberAfter, FitsRecord, Fitting, applied-valid, put-reads, applied-reads}
 use Rattle.command.proofs.Fits.{Sound, SoundAsked, asked-sound, accepted-fits}
 use Rattle.command.proofs.Agree.{accepted-asked}
 use Rattle.reply.proofs.Laws.{Text, longest, text-legal, served-answers}
 use Rattle.controller.specs.Call.{Outcome, silent, replied, callOf}
 use Rattle.controller.proofs.Steps.{text-by-steps}
-use Rattle.controller.proofs.ReadBack.{parameterShown, composed, AnswersAt, composition-same, status-read, codes-read, number-read, recipe-read, composition-read, raw-read, alarms-read, value-read, level-read, skipped, shown-first}
+use Rattle.controller.proofs.ReadBack.{parameterShown, composed, AnswersAt, composition-same, status-read, codes-read, number-read, recipe-read, composition-read, raw-read, alarms-read, value-read, level-read, held-there, held-elsewhere}
 
 -- ---- every input gets a reply or exactly one named silence
 
@@ -118,16 +120,23 @@ pub refusal-keeps : (t : List ℕ) (r : Record) (n : ℕ) → verdict t r ≡ NO
 unfolding recordAfter
 refusal-keeps t r n h = ap (λ (v : Verdict). recordFor v t r) h
 
+-- what holds of the record before a call, and after it if the request is accepted, holds after it
+pub after-call : (k : Kind) (r : Record) (q o : List ℕ) (P : Record → Type 0) → P r
+    → (Answered k r q o → verdict (textIn k q) r ≡ tables.accepted → P (callOf k r q o .after)) → P (callOf k r q o .after)
+after-call k r q o P before accepted-so =
+    ⊎-elim (λ (s : Silenced k r q o). subst P (sym (s .same-record)) before) (λ (a : Answered k r q o). go a (verdict (textIn k q) r) refl) (every-input k r q o)
+  where
+    go : Answered k r q o → (v : Verdict) → verdict (textIn k q) r ≡ v → P (callOf k r q o .after)
+    go a (NO n) e = subst P (sym (a .next-record ∙ refusal-keeps (textIn k q) r n e)) before
+    go a tables.accepted e = accepted-so a e
+
 -- a valid record stays valid
 pub call-keeps-valid : (k : Kind) (r : Record) (q o : List ℕ) → valid r ≡ true → valid (callOf k r q o .after) ≡ true
 unfolding recordAfter
 call-keeps-valid k r q o h =
-    ⊎-elim (λ (s : Silenced k r q o). ap valid (s .same-record) ∙ h) (λ (a : Answered k r q o). ap valid (a .next-record) ∙ kept (verdict (textIn k q) r) refl)
-    (every-input k r q o)
-  where
-    kept : (v : Verdict) → verdict (textIn k q) r ≡ v → valid (recordFor v (textIn k q) r) ≡ true
-    kept (NO n) e = h
-    kept tables.accepted e = applied-valid r h (rowOf (codeIn (textIn k q)) commands .effect (argumentsIn (textIn k q))) (accepted-fits (textIn k q) r e)
+    after-call k r q o (λ s. valid s ≡ true) h (λ a e.
+    let t : List ℕ = textIn k q in
+    ap valid (a .next-record ∙ ap (λ (v : Verdict). recordFor v t r) e) ∙ applied-valid r h (rowOf (codeIn t) commands .effect (argumentsIn t)) (accepted-fits t r e))
 
 -- ---- NOnn goes out if and only if row nn's own condition holds and no earlier row's does; accepted if and only if none does
 pub no-by-row : (t : List ℕ) (r : Record) (n : ℕ) → verdict t r ≡ NO n → (i : ℕ) × FirstAt refusals (codeIn t) (behindCode t) r i × (rowNumber (getD refusals i noRow) ≡ n)
@@ -215,13 +224,26 @@ module _ (s : Record) (v : Field → ℕ) (h : (f : Field) → get f s ≡ v f) 
       ap (λ (n : ℕ). pick (c .if .holds n) (c .letters ++ (space ∷ [])) [] ++ codesOn cs s) (h (c .if .field))
       ∙ ap (λ (y : List ℕ). pick (c .if .holds (v (c .if .field))) (c .letters ++ (space ∷ [])) [] ++ y) (codes-by cs)
 
+-- EQ and RS look at no value
+status-unvalued : (i n : ℕ) (s : Record) → statusCharacters (put (value i) n s) ≡ statusCharacters s
+unfolding statusCharacters weightIn
+status-unvalued i n s = ap statusCharacters (sym (put-value i n s))
+
+codes-unvalued : (i n : ℕ) (s : Record) → codesOn statusCodes (put (value i) n s) ≡ codesOn statusCodes s
+unfolding codesOn
+codes-unvalued i n s = ap (codesOn statusCodes) (sym (put-value i n s))
+
 -- no change names the address
 address-stays : (cs : List Change) (r : Record) → Fitting cs → numberAfter address cs r ≡ get address r
 unfolding numberAfter
 address-stays [] r f = refl
-address-stays (becomes g n ∷ cs) r f = let l = f .1 in simp (ne-eqb (position g) (position address) (λ z. omega arith)) (address-stays cs r (f .3))
-address-stays (nextBatch ∷ cs) r f = address-stays cs r f
-address-stays (resetAlarms ∷ cs) r f = address-stays cs r f
+address-stays (c ∷ cs) r f = unnamed c (f .0) (λ g. numberAfter g cs r) ∙ address-stays cs r (f .1)
+  where
+    unnamed : (c : Change) → FitsRecord c → (w : Field → ℕ) → given c w address ≡ w address
+    unnamed (becomes g n) h w = let l = h .1 in held-elsewhere g address n _ (λ z. omega arith)
+    unnamed nextBatch h w = refl
+    unnamed resetAlarms h w = refl
+    unnamed (newValue i n) h w = held-elsewhere (value i) address n _ (λ z. omega arith)
 
 -- ---- read-back over two calls: the first an accepted write, the second of either kind with any buffer of 64 bytes or more
 module _ (k k′ : Kind) (r : Record) (q o o′ : List ℕ) (heard : callOf k r q o .silence ≡ 0) (ok : verdict (textIn k q) r ≡ tables.accepted)
@@ -264,14 +286,22 @@ module _ (k k′ : Kind) (r : Record) (q o o′ : List ℕ) (heard : callOf k r 
   left : (cs : List Change) → effect ≡ cs → (g : Field) → get g next ≡ numberAfter g cs r
   left cs e g = left-so g ∙ ap (λ (y : List Change). numberAfter g y r) e
 
+  -- and as a whole
+  next-so : (cs : List Change) → effect ≡ cs → next ≡ applied cs r
+  unfolding recordAfter
+  next-so cs e = is-answered k r q o heard .next-record ∙ (ap (λ (v : Verdict). recordFor v written r) ok ∙ ap (λ (y : List Change). applied y r) e)
+
   -- its code stands in the table and its arguments fit
   sound : Sound (codeIn written) x
   sound = subst SoundAsked (accepted-asked written r ok) (asked-sound written)
 
+  address-left : get address next ≡ get address r
+  address-left = left-so address ∙ address-stays effect r (accepted-fits written r ok)
+
   -- what a read shows; no write changes the address
   shows-so : (question was shown : List ℕ) → AnswersAt k′ next o′ (get address next) question was → was ≡ shown → Shows question shown
   shows-so question was shown a w =
-      let address-so : Shows question was = subst (λ (n : ℕ). AnswersAt k′ next o′ n question was) (left-so address ∙ address-stays effect r (accepted-fits written r ok)) a in
+      let address-so : Shows question was = subst (λ (n : ℕ). AnswersAt k′ next o′ n question was) address-left a in
       subst (λ (y : List ℕ). Shows question y) w address-so
 
   -- ---- EQ, RS and EA after any write: the signs of the fields as it left them
@@ -303,12 +333,13 @@ module _ (k k′ : Kind) (r : Record) (q o o′ : List ℕ) (heard : callOf k r 
 
   -- PC
   module _ (c : codeIn written ≡ PC) where
-    after-value : (g : Field) → get g next ≡ numberAfter g ((value (x .place) ≔ x .number) ∷ (changed ≔ on) ∷ []) r
+    after-value : (g : Field) → get g next ≡ numberAfter g (newValue (x .place) (x .number) ∷ []) r
     unfolding rowOf
-    after-value = left ((value (x .place) ≔ x .number) ∷ (changed ≔ on) ∷ []) (ap (λ (d : ℕ). rowOf d commands .effect x) c)
+    after-value = left (newValue (x .place) (x .number) ∷ []) (ap (λ (d : ℕ). rowOf d commands .effect x) c)
 
     new-value : get (value (x .place)) next ≡ x .number
-    new-value = after-value (value (x .place)) ∙ shown-first (value (x .place)) (x .number) ((changed ≔ on) ∷ []) r
+    unfolding numberAfter
+    new-value = after-value (value (x .place)) ∙ held-there (value (x .place)) (x .number) _
 
     pub value-after-value : Shows (text "PV " ++ digits 3 parameter) (parameterShown (text "PV ") parameter 8 (x .number))
     unfolding rowOf
@@ -320,19 +351,56 @@ module _ (k k′ : Kind) (r : Record) (q o o′ : List ℕ) (heard : callOf k r 
     unfolding numberAfter
     composition-after-value e =
         let same : get recipe next ≡ get recipe r =
-        after-value recipe ∙ skipped (value (x .place)) recipe (x .number) ((changed ≔ on) ∷ []) r (λ z. omega arith) in
+        after-value recipe ∙ held-elsewhere (value (x .place)) recipe (x .number) _ (λ z. omega arith) in
         let factor : get (value (factorPlace (get recipe next))) next ≡ x .number =
         ap (λ (n : ℕ). get (value (factorPlace n)) next) same ∙ (ap (λ (i : ℕ). get (value i) next) (sym e) ∙ new-value) in
         shows-so _ _ _ (composition-read k′ next o′ valid-next room) (composition-same _ _ _ _ same factor)
 
+    -- 02, L2: the value, and the flag "exactly if the value differs from the one held"; nothing else of the record is changed
+    pub record-after-value : next ≡ replaced (value (x .place)) (x .number) changed r
+    unfolding applied rowOf
+    record-after-value = next-so (newValue (x .place) (x .number) ∷ []) (ap (λ (d : ℕ). rowOf d commands .effect x) c)
+
+    -- the value held: the record stays as it was, and so do EQ and RS
+    module _ (same : get (value (x .place)) r ≡ x .number) where
+      pub record-after-same : next ≡ r
+      record-after-same =
+          let l = sound .placed (ap (of (PV ∷ XV ∷ PC ∷ XC ∷ [])) c) in
+          record-after-value ∙ replaced-same r (value (x .place)) changed (x .number) valid-before (omega arith) (omega arith) same
+
+      pub status-after-same : Shows (text "EQ") (statusCharacters r)
+      status-after-same = shows-so _ _ _ (status-read k′ next o′ valid-next room) (ap statusCharacters record-after-same)
+
+      pub codes-after-same : Shows (text "RS") (text "RS " ++ codesOn statusCodes r)
+      codes-after-same = shows-so _ _ _ (codes-read k′ next o′ valid-next room) (ap (λ (s : Record). text "RS " ++ codesOn statusCodes s) record-after-same)
+
+    -- another: the value and the flag are new, and EQ and RS show the record as it was with the flag on
+    module _ (other : get (value (x .place)) r ≡ x .number → ⊥) where
+      pub record-after-other : next ≡ put (value (x .place)) (x .number) (put changed on r)
+      record-after-other = record-after-value ∙ replaced-other r (value (x .place)) changed (x .number) other
+
+      flagged : (g : Field) → get g (put changed on r) ≡ assigned changed on (λ f. get f r) g
+      flagged = put-reads r valid-before (λ f. get f r) (λ g. refl) changed on on (omega arith) refl refl
+
+      pub status-after-other : Shows (text "EQ") (statusBy (assigned changed on (λ g. get g r)) characters)
+      status-after-other =
+          shows-so _ _ _ (status-read k′ next o′ valid-next room)
+          (ap statusCharacters record-after-other ∙ (status-unvalued (x .place) (x .number) (put changed on r) ∙ status-by (put changed on r) (assigned changed on (λ g. get g r)) flagged))
+
+      pub codes-after-other : Shows (text "RS") (text "RS " ++ codesBy (assigned changed on (λ g. get g r)) statusCodes)
+      codes-after-other =
+          shows-so _ _ _ (codes-read k′ next o′ valid-next room)
+          (ap (λ (y : List ℕ). text "RS " ++ y)
+          (ap (codesOn statusCodes) record-after-other ∙ (codes-unvalued (x .place) (x .number) (put changed on r) ∙ codes-by (put changed on r) (assigned changed on (λ g. get g r)) flagged statusCodes)))
+
   -- XC
   module _ (c : codeIn written ≡ XC) where
     pub level-after-level : Shows (text "XV " ++ digits 3 parameter) (parameterShown (text "XV ") parameter 1 (x .number))
-    unfolding rowOf
+    unfolding rowOf numberAfter
     level-after-level =
         shows-so _ _ _ (level-read k′ next o′ valid-next room parameter (x .place) (named-so XC c refl refl))
         (ap (λ (n : ℕ). parameterShown (text "XV ") parameter 1 n)
-        (left ((level (x .place) ≔ x .number) ∷ []) (ap (λ (d : ℕ). rowOf d commands .effect x) c) (level (x .place)) ∙ shown-first (level (x .place)) (x .number) [] r))
+        (left ((level (x .place) ≔ x .number) ∷ []) (ap (λ (d : ℕ). rowOf d commands .effect x) c) (level (x .place)) ∙ held-there (level (x .place)) (x .number) _))
 
   -- NR
   module _ (c : codeIn written ≡ NR) where
@@ -341,7 +409,8 @@ module _ (k k′ : Kind) (r : Record) (q o o′ : List ℕ) (heard : callOf k r 
     after-recipe = left ((recipe ≔ x .number) ∷ []) (ap (λ (d : ℕ). rowOf d commands .effect x) c)
 
     new-recipe : get recipe next ≡ x .number
-    new-recipe = after-recipe recipe ∙ shown-first recipe (x .number) [] r
+    unfolding numberAfter
+    new-recipe = after-recipe recipe
 
     pub recipe-after-recipe : Shows (text "RR") (text "RR " ++ digits 2 (x .number))
     recipe-after-recipe = shows-so _ _ _ (recipe-read k′ next o′ valid-next room) (ap (λ (n : ℕ). text "RR " ++ digits 2 n) new-recipe)
@@ -351,7 +420,7 @@ module _ (k k′ : Kind) (r : Record) (q o o′ : List ℕ) (heard : callOf k r 
     composition-after-recipe =
         let f : Field = value (factorPlace (x .number)) in
         let factor : get (value (factorPlace (get recipe next))) next ≡ get f r =
-        ap (λ (n : ℕ). get (value (factorPlace n)) next) new-recipe ∙ (after-recipe f ∙ skipped recipe f (x .number) [] r (λ z. omega arith)) in
+        ap (λ (n : ℕ). get (value (factorPlace n)) next) new-recipe ∙ (after-recipe f ∙ held-elsewhere recipe f (x .number) _ (λ z. omega arith)) in
         shows-so _ _ _ (composition-read k′ next o′ valid-next room) (composition-same _ _ _ _ new-recipe factor)
 
   -- SB
@@ -378,16 +447,26 @@ module _ (k k′ : Kind) (r : Record) (q o o′ : List ℕ) (heard : callOf k r 
 
     -- and nothing else of the record is changed
     pub record-after-reset : next ≡ alarmsReset r
-    unfolding recordAfter applied rowOf
-    record-after-reset =
-        is-answered k r q o heard .next-record ∙ (ap (λ (v : Verdict). recordFor v written r) ok ∙ ap (λ (d : ℕ). applied (rowOf d commands .effect x) r) c)
+    unfolding applied rowOf
+    record-after-reset = next-so (resetAlarms ∷ []) (ap (λ (d : ℕ). rowOf d commands .effect x) c)
+
+-- ---- no call changes the address
+pub address-kept : (k : Kind) (r : Record) (q o : List ℕ) → get address (callOf k r q o .after) ≡ get address r
+address-kept k r q o =
+    after-call k r q o (λ s. get address s ≡ get address r) refl (λ a e. address-left k k r q o o (a .heard) e (a .room))
 
 -- ---- alarms that last are left by AR, and with them the record, whatever it replies
 pub reset-keeps : (k : Kind) (r : Record) (q o : List ℕ) → codeIn (textIn k q) ≡ AR → lasting (get alarms r) ≡ get alarms r → callOf k r q o .after ≡ r
 unfolding put
 reset-keeps k r q o c l =
-    ⊎-elim (λ (s : Silenced k r q o). s .same-record) (λ (a : Answered k r q o). go a (verdict (textIn k q) r) refl) (every-input k r q o)
-  where
-    go : Answered k r q o → (v : Verdict) → verdict (textIn k q) r ≡ v → callOf k r q o .after ≡ r
-    go a (NO n) e = a .next-record ∙ refusal-keeps (textIn k q) r n e
-    go a tables.accepted e = record-after-reset k k r q o o (a .heard) e (a .room) c ∙ ap (λ (n : ℕ). put alarms n r) l
+    after-call k r q o (λ s. s ≡ r) refl (λ a e. record-after-reset k k r q o o (a .heard) e (a .room) c ∙ ap (λ (n : ℕ). put alarms n r) l)
+
+-- ---- the changed flag is not switched off by PC, whatever it replies
+pub flag-stays : (k : Kind) (r : Record) (q o : List ℕ) → codeIn (textIn k q) ≡ PC → get changed r ≡ on → get changed (callOf k r q o .after) ≡ on
+unfolding numberAfter
+flag-stays k r q o c lit =
+    after-call k r q o (λ s. get changed s ≡ on) lit (λ a e.
+    let x : Arguments = argumentsIn (textIn k q) in
+    after-value k k r q o o (a .heard) e (a .room) c changed
+    ∙ (held-elsewhere (value (x .place)) changed (x .number) _ (λ z. omega arith)
+    ∙ (ap (flagAfter (get (value (x .place)) r) (x .number)) lit ∙ pick-same (eqb (get (value (x .place)) r) (x .number)) on)))

@@ -1,4 +1,4 @@
--- Document 01, "Worked on the bench record", and 02's EA: the starred examples of the controller as whole frames, computed on the
+-- Document 01, "Worked on the bench record", and rows for 02: the starred examples of the controller as whole frames, computed on the
 -- definition that the promise of `call` cites. One table under one statement. Assumes nothing.
 use Prim.Native.Nat.{ℕ}
 use Prim.Native.String.{String}
@@ -62,6 +62,9 @@ table =
     EQ-frame gets status-frame
     ∷ framed "01RC" gets framed "01RC 03 00010012"
     ∷ framed "01PC 807 5" gets framed "01NO07"
+    -- 02, L2: the value that is held leaves the flag off
+    ∷ framed "01PC 032 10012" gets OK-frame
+    ∷ EQ-frame gets status-frame
     ∷ framed "01PC 032 10150" gets OK-frame
     ∷ framed "01PV 032" gets framed "01PV 032 00010150"
     ∷ EQ-frame gets framed "01000800"

@@ -2,13 +2,13 @@
 -- since no field with a mask goes beyond the last recipe, by the sets of alarms, and since no field can hold the number that stands for
 -- any. Assumes nothing.
 use Prim.Native.Nat.{ℕ, _+_, _*_, _≤_, _<_}
-use mathlib.Core.Bool.{Bool, true, false, not, _&&_, _||_, false≢true, and-assoc}
+use mathlib.Core.Bool.{Bool, true, false, not, _&&_, _||_, false≢true, and-assoc, and-or-distrib-left}
 use mathlib.Core.Path.{_≡_, refl, sym, ap, subst, _∙_}
 use mathlib.Core.Logic.{_⊎_, inl, inr, ⊎-elim}
 use native.Mathlib.Omega.{arith}
 use lib.Dec.{eqb, leb, ltb}
 use lib.ListN.{getD}
-use lib.Bits.{bitAnd, and-le-r}
+use lib.Bits.{bitAnd, bitOr, and-le-r}
 use borrow.Author.Tests.{eq-eqb, ne-eqb, eqb-true, leb-true, ltb-true, not-false}
 use Rattle.base.specs.Test.{between}
 use Rattle.base.proofs.Tests.{and-yes, and-left, and-right, between-yes, between-high, between-no, holds-below, below-or-not}
@@ -18,7 +18,7 @@ use Rattle.state.specs.Field.{Field, address, access, alarms, position, fieldRa
 use Rattle.state.specs.Valid.{within}
 use Rattle.state.proofs.Fields.{Held, by-fields, by-list}
 use Rattle.knowledge.specs.Sets.{Kind, several, single, alarmed, kindOf, bit, maskBy, maskIn, anyNumber, only, alarmsIn, noneMask, someMask, alarmMask, inSet, has, any, anyOf, alone, aloneOf}
-use Rattle.knowledge.proofs.Bits.{bit-and, bit-zero, bit-mask, bit-beyond, some-bit}
+use Rattle.knowledge.proofs.Bits.{bit-and, bit-or, bit-zero, bit-mask, bit-beyond, some-bit}
 use Rattle.knowledge.proofs.Alarms.{Uniform, alarms-passed, no-alarms, some-alarms, any-alarms, just-in}
 
 -- ---- the kinds of fields
@@ -150,6 +150,11 @@ module _ (f : Field) (p : ℕ → Bool) (e : kindOf f ≡ several) where
         let w : within (fieldRange f) (s .0) ≡ true =
         and-left (within (fieldRange f) (s .0)) (p (s .0)) (sym (masked (s .0)) ∙ (ap (λ (t : Kind). bit (maskBy t f p) (s .0)) (sym e) ∙ m)) in
         (s .0, has-yes f (bitAnd code (maskIn f p)) (s .0) w (ap (λ (t : Kind). inSet t (bitAnd code (maskIn f p)) (s .0)) e ∙ s .1))
+
+-- the numbers of two sets together
+pub has-or : (f : Field) → kindOf f ≡ several → (c d n : ℕ) → has f (bitOr c d) n ≡ (has f c n || has f d n)
+unfolding has
+has-or f e c d n = simp (e, bit-or) (and-or-distrib-left (within (fieldRange f) n) (bit c n) (bit d n))
 
 -- ---- a test that a field's set has a code for: any where the code is a mask, of the alarms one of whether an alarm is on
 pub Testable : Field → (ℕ → Bool) → Type 0

@@ -7,3 +7,4 @@ pub mod Recode
 pub mod Cut
 pub mod Start
 pub mod Move
+pub mod Replace

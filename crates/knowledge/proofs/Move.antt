@@ -2,7 +2,7 @@
 -- Each move puts into a field a number that depends on the field alone, so one law serves them. Assumes nothing.
 use Prim.Native.Nat.{ℕ, _-_, _≤_, _<_}
 use mathlib.Core.Bool.{Bool, true, false}
-use mathlib.Core.Path.{_≡_, refl, sym, ap, ap₂, _∙_}
+use mathlib.Core.Path.{_≡_, refl, sym, ap, _∙_}
 use native.Mathlib.Omega.{arith}
 use lib.Dec.{eqb}
 use lib.ListN.{length}
@@ -13,20 +13,20 @@ use Rattle.state.specs.declared.Record.{Record}
 use Rattle.state.specs.Parameter.{parameterCount}
 use Rattle.state.specs.Alarm.{noAlarm, allAlarms, lasting}
 use Rattle.state.specs.Field.{Field, access, number, alarms, value, get, put, position, fieldRange}
-use Rattle.state.specs.Valid.{within, valid}
+use Rattle.state.specs.Valid.{within}
 use Rattle.state.specs.Event.{nextNumber}
 use Rattle.state.proofs.Alarms.{lasting-within}
 use Rattle.state.proofs.Fields.{Held, get-put-same, get-put-other}
 use Rattle.state.proofs.Validity.{valid-tell}
-use Rattle.state.proofs.Kept.{field-in, put-kept, next-within}
-use Rattle.state.proofs.Whole.{same-fields}
+use Rattle.state.proofs.Kept.{next-within}
+use Rattle.state.proofs.Whole.{put-over}
 use Rattle.knowledge.specs.declared.Knowledge.{Knowledge}
 use Rattle.knowledge.specs.Sets.{anyNumber, only, has, alone, nextCode, resetCode}
 use Rattle.knowledge.specs.Knowledge.{codeAt, stepped}
 use Rattle.knowledge.proofs.Possible.{Possible, Kept}
 use Rattle.knowledge.proofs.Alarms.{reset-in, reset-from}
 use Rattle.knowledge.proofs.Codes.{has-yes, has-within, has-set, has-only, only-has, only-self, only-same, never-any, any-has, alone-has, alone-same}
-use Rattle.knowledge.proofs.Recode.{each-field, code-same, code-other, recode-own, recode-kept}
+use Rattle.knowledge.proofs.Recode.{recode-own, recode-put, recode-back, recode-kept}
 
 -- ---- a field's number w becomes `step w`, and the code of its set `code c`
 pub record Stepping (f : Field) (step code : ℕ → ℕ) : Type 0 where
@@ -42,45 +42,17 @@ module _ {f : Field} {step code : ℕ → ℕ} (s : Stepping f step code) (k : K
   own = codeAt (position f) k
 
   pub stepped-onward : (r : Record) → length (k .codes) ≡ position (value parameterCount) → Possible k r → Possible (stepped f code k) (put f (step (get f r)) r)
-  stepped-onward r full t =
-      let h = s .onward own (get f r) (t .each f (s .held)) in
-      let w = has-within f (code own) (step (get f r)) h in
-      let v = valid-tell r (t .sound) in
-      record {
-        living = t .living;
-        sound = put-kept r (t .sound) f (step (get f r)) w;
-        each =
-            each-field f (λ g. has g (codeAt (position g) (stepped f code k)) (get g (put f (step (get f r)) r)) ≡ true)
-            (ap₂ (has f) (code-same k f (code own) full (s .held)) (get-put-same r (v .values-length) (v .levels-length) f (step (get f r)) (s .held) w) ∙ h)
-            (λ g l n. ap₂ (has g) (code-other k f (code own) g n) (get-put-other f g (step (get f r)) r n) ∙ t .each g l);
-      }
+  stepped-onward r full t = recode-put k r f (code own) (step (get f r)) full (s .held) t (s .onward own (get f r) (t .each f (s .held)))
 
   pub stepped-back : {a c : ℕ} (q : Record) → Kept a c k → Possible (stepped f code k) q → (r : Record) × Possible k r × (put f (step (get f r)) r ≡ q)
   stepped-back q kept t =
       let held = s .held in
       let some = kept .some (t .living) f held in
       let b = s .back own (get f q) (some .0) (some .1) (recode-own k q f (code own) (kept .full) held t) in
-      let w = has-within f own (b .0) (b .1) in
+      let before = recode-back k q f (code own) (b .0) (kept .full) held t (b .1) in
       let v = valid-tell q (t .sound) in
-      let r = put f (b .0) q in
-      let sound : valid r ≡ true = put-kept q (t .sound) f (b .0) w in
-      let u = valid-tell r sound in
-      let same : get f r ≡ b .0 = get-put-same q (v .values-length) (v .levels-length) f (b .0) held w in
-      let again : step (get f r) ≡ get f q = ap step same ∙ b .2 in
-      let inside : within (fieldRange f) (step (get f r)) ≡ true = ap (within (fieldRange f)) again ∙ field-in q (t .sound) f held in (
-        r,
-        record {
-          living = t .living;
-          sound = sound;
-          each =
-              each-field f (λ g. has g (codeAt (position g) k) (get g r) ≡ true) (ap (has f own) same ∙ b .1)
-              (λ g l n. ap₂ (has g) (sym (code-other k f (code own) g n)) (get-put-other f g (b .0) q n) ∙ t .each g l);
-        },
-        same-fields (put f (step (get f r)) r) q (put-kept r sound f (step (get f r)) inside) (t .sound)
-            (each-field f (λ g. get g (put f (step (get f r)) r) ≡ get g q)
-            (get-put-same r (u .values-length) (u .levels-length) f (step (get f r)) held inside ∙ again)
-            (λ g l n. get-put-other f g (step (get f r)) r n ∙ get-put-other f g (b .0) q n)),
-      )
+      let same : get f (put f (b .0) q) ≡ b .0 = get-put-same q (v .values-length) (v .levels-length) f (b .0) held (has-within f own (b .0) (b .1)) in
+      (put f (b .0) q, before, put-over q (put f (b .0) q) f (t .sound) (before .sound) held (λ g n. get-put-other f g (b .0) q n) _ (ap step same ∙ b .2))
 
   pub stepped-kept : {a c : ℕ} → Kept a c k → Kept a c (stepped f code k)
   stepped-kept kept =

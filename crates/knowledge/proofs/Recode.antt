@@ -2,7 +2,7 @@
 -- position, so no law has a case per field. Assumes nothing.
 use Prim.Native.Nat.{ℕ, _<_}
 use mathlib.Core.Bool.{Bool, true, false}
-use mathlib.Core.Path.{_≡_, refl, sym, ap, subst, _∙_}
+use mathlib.Core.Path.{_≡_, refl, sym, ap, ap₂, subst, _∙_}
 use native.Mathlib.Omega.{arith}
 use lib.Dec.{eqb}
 use lib.ListN.{length, length-set}
@@ -10,12 +10,16 @@ use lib.Seq.{getD-set-same, getD-set-other}
 use borrow.Author.Tests.{eqb-true, eqb-false}
 use Rattle.state.specs.declared.Record.{Record}
 use Rattle.state.specs.Parameter.{parameterCount}
-use Rattle.state.specs.Field.{Field, address, access, value, get, position}
-use Rattle.state.proofs.Fields.{Held, same-field}
+use Rattle.state.specs.Field.{Field, address, access, value, get, put, position}
+use Rattle.state.proofs.Fields.{Held, same-field, get-put-same, get-put-other}
+use Rattle.state.proofs.Validity.{valid-tell}
+use Rattle.state.proofs.Kept.{put-kept}
+use Rattle.state.proofs.Whole.{put-own}
 use Rattle.knowledge.specs.declared.Knowledge.{Knowledge}
 use Rattle.knowledge.specs.Sets.{has}
 use Rattle.knowledge.specs.Knowledge.{codeAt, recoded}
 use Rattle.knowledge.proofs.Possible.{Possible, Kept}
+use Rattle.knowledge.proofs.Codes.{has-within}
 
 -- what holds of a field and of each other one holds of all
 pub each-field : (f : Field) (P : Field → Type 0) → P f → ((g : Field) → Held g → (position f ≡ position g → ⊥) → P g) → (g : Field) → Held g → P g
@@ -36,30 +40,39 @@ module _ (k : Knowledge) (f : Field) (code : ℕ) where
   code-other g h = getD-set-other (k .codes) (position f) (position g) code 0 (λ e. h (sym e))
 
 -- ---- possible records
+
+-- with another number in a field: possible by what has that number there and is the same elsewhere
+put-possible : (k l : Knowledge) (r : Record) (f : Field) (n : ℕ) → Held f → l .alive ≡ k .alive
+    → ((g : Field) → (position f ≡ position g → ⊥) → codeAt (position g) l ≡ codeAt (position g) k) → Possible k r → has f (codeAt (position f) l) n ≡ true → Possible l (put f n r)
+put-possible k l r f n held alive others t h =
+    let w = has-within f (codeAt (position f) l) n h in
+    let v = valid-tell r (t .sound) in
+    record {
+      living = alive ∙ t .living;
+      sound = put-kept r (t .sound) f n w;
+      each =
+          each-field f (λ g. has g (codeAt (position g) l) (get g (put f n r)) ≡ true)
+          (ap (has f (codeAt (position f) l)) (get-put-same r (v .values-length) (v .levels-length) f n held w) ∙ h)
+          (λ g i o. ap₂ (has g) (others g o) (get-put-other f g n r o) ∙ t .each g i);
+    }
+
+module _ (k : Knowledge) (r : Record) (f : Field) (code n : ℕ) (full : length (k .codes) ≡ position (value parameterCount)) (held : Held f) where
+  pub recode-put : Possible k r → has f code n ≡ true → Possible (recoded (position f) code k) (put f n r)
+  recode-put t h = put-possible k (recoded (position f) code k) r f n held refl (code-other k f code) t (ap (λ (c : ℕ). has f c n) (code-same k f code full held) ∙ h)
+
+  pub recode-back : Possible (recoded (position f) code k) r → has f (codeAt (position f) k) n ≡ true → Possible k (put f n r)
+  recode-back t h = put-possible (recoded (position f) code k) k r f n held refl (λ g o. sym (code-other k f code g o)) t h
+
+-- with the number as it is
 module _ (k : Knowledge) (r : Record) (f : Field) (code : ℕ) (full : length (k .codes) ≡ position (value parameterCount)) (held : Held f) where
   pub recode-own : Possible (recoded (position f) code k) r → has f code (get f r) ≡ true
   recode-own t = ap (λ (c : ℕ). has f c (get f r)) (sym (code-same k f code full held)) ∙ t .each f held
 
   pub recode-told : Possible (recoded (position f) code k) r → has f (codeAt (position f) k) (get f r) ≡ true → Possible k r
-  recode-told t own =
-      record {
-        living = t .living;
-        sound = t .sound;
-        each =
-            each-field f (λ g. has g (codeAt (position g) k) (get g r) ≡ true) own
-            (λ g h n. ap (λ (c : ℕ). has g c (get g r)) (sym (code-other k f code g n)) ∙ t .each g h);
-      }
+  recode-told t own = subst (Possible k) (put-own r f (t .sound) held (get f r) refl) (recode-back k r f code (get f r) full held t own)
 
   pub recode-left : Possible k r → has f code (get f r) ≡ true → Possible (recoded (position f) code k) r
-  recode-left t own =
-      record {
-        living = t .living;
-        sound = t .sound;
-        each =
-            each-field f (λ g. has g (codeAt (position g) (recoded (position f) code k)) (get g r) ≡ true)
-            (ap (λ (c : ℕ). has f c (get f r)) (code-same k f code full held) ∙ own)
-            (λ g h n. ap (λ (c : ℕ). has g c (get g r)) (code-other k f code g n) ∙ t .each g h);
-      }
+  recode-left t own = subst (Possible (recoded (position f) code k)) (put-own r f (t .sound) held (get f r) refl) (recode-put k r f code (get f r) full held t own)
 
 -- ---- what is kept
 module _ (k : Knowledge) (f : Field) (code : ℕ) (full : length (k .codes) ≡ position (value parameterCount)) (held : Held f) where

@@ -6,7 +6,7 @@ use mathlib.Core.List.{List, [], _∷_, _++_, map, map-append, append-assoc, app
 use native.Mathlib.Numerals.{add-one}
 use native.Mathlib.Omega.{arith}
 use lib.Dec.{eqb}
-use lib.ListN.{List·getD-eq-default, length, set, replicate, length-append}
+use lib.ListN.{List·getD-eq-default, length, getD, set, replicate, length-set, length-append}
 use lib.Seq.{set-out, set-at}
 use lib.Bits.{bitAnd}
 use borrow.Author.Tests.{eq-eqb, ne-eqb, le-leb, lt-leb, lt-ltb, le-ltb, not-true, not-false}
@@ -17,8 +17,8 @@ use Rattle.state.specs.Alarm.{noAlarm, allAlarms, lasting}
 use Rattle.state.specs.Field.{address, access, number, alarms, value, level, position, fieldRange, fieldsFor}
 use Rattle.state.specs.Valid.{within}
 use Rattle.knowledge.specs.declared.Knowledge.{Knowledge}
-use Rattle.knowledge.specs.Sets.{bit, maskFrom, anyNumber, anyLasting, above, alarmsIn, justAlarms, resetCode, has, any, alone}
-use Rattle.knowledge.specs.Knowledge.{codeAt, dead, recoded, restricted, told, settled, advanced, alarmsLeft, start}
+use Rattle.knowledge.specs.Sets.{bit, maskFrom, anyNumber, anyLasting, above, alarmsIn, justAlarms, resetCode, onMask, orOn, flagCode, has, any, alone}
+use Rattle.knowledge.specs.Knowledge.{codeAt, dead, recoded, restricted, told, settled, advanced, alarmsLeft, replacing, start}
 
 -- ---- one code: beyond the last position there is none
 module _ (k : Knowledge) (p n : ℕ) (full : length (k .codes) ≡ n) (beyond : n ≤ p) where
@@ -149,6 +149,29 @@ pub reset-stored : (k s : Knowledge) (c d : ℕ) → c ≡ codeAt (position alar
 unfolding alarmsLeft
 reset-stored k s c d known e f = f ∙ simp (e, known)
 
+-- ---- a flag, and a value that becomes n
+module _ (n held flag : ℕ) where
+  pub flag-same : held ≡ n → flag ≡ flagCode n held flag
+  unfolding flagCode
+  flag-same e = simp (eq-eqb _ _ e)
+
+  module _ (other : held ≡ n → ⊥) where
+    pub flag-either : held ≡ anyNumber → orOn flag ≡ flagCode n held flag
+    unfolding flagCode
+    flag-either e = simp (ne-eqb _ _ other, eq-eqb _ _ e)
+
+    pub flag-on : (held ≡ anyNumber → ⊥) → onMask ≡ flagCode n held flag
+    unfolding flagCode
+    flag-on e = simp (ne-eqb _ _ other, ne-eqb _ _ e)
+
+module _ (k s : Knowledge) (p n q d e : ℕ) (held : d ≡ codeAt p k) (flag : e ≡ flagCode n d (getD (k .codes) q 0)) where
+  pub replace-stored : s ≡ recoded p n (recoded q e k) → s ≡ replacing p n q k
+  unfolding replacing codeAt
+  replace-stored h = h ∙ ap (λ (x : ℕ). recoded p n (recoded q x k)) (flag ∙ ap (λ (x : ℕ). flagCode n x (codeAt q k)) held)
+
+  pub replace-beyond : (m : ℕ) → length (k .codes) ≡ m → m ≤ p → s ≡ recoded q e k → s ≡ replacing p n q k
+  replace-beyond m full l h = replace-stored (h ∙ put-beyond (recoded q e k) p m (length-set (k .codes) q e ∙ full) l n)
+
 -- a level may be any
 abbrev anyLevel : ℕ
 anyLevel = 0xf
@@ -210,3 +233,7 @@ pub ruleset resetting = (reset-none, reset-just, reset-lasting, reset-any)
 pub ruleset just = (just-none, just-some)
 
 pub ruleset settling = (settle-other, settle-own)
+
+pub ruleset flagging = (flag-same, flag-either, flag-on)
+
+pub ruleset replacing-stored = (replace-stored, replace-beyond)

@@ -11,7 +11,7 @@ use Rattle.state.specs.Parameter.{parameterCount}
 use Rattle.state.specs.Field.{Field, address, access, number, alarms, position, fieldRange, fieldsFor}
 use Rattle.state.specs.Valid.{within}
 use Rattle.knowledge.specs.declared.Knowledge.{Knowledge}
-use Rattle.knowledge.specs.Sets.{any, alone, maskIn, only, has, nextCode, resetCode}
+use Rattle.knowledge.specs.Sets.{any, alone, maskIn, only, has, nextCode, resetCode, flagCode}
 
 -- the code at a position, 0 beyond the last
 unfoldable pub codeAt : ℕ → Knowledge → ℕ
@@ -56,6 +56,10 @@ advanced k = stepped number (λ c. nextCode c) k
 -- AR: the lasting alarms stay
 unfoldable pub alarmsLeft : Knowledge → Knowledge
 alarmsLeft k = stepped alarms (λ c. resetCode c) k
+
+-- PC: the number at p becomes n, and the flag at q is switched on if that differs from the number held
+unfoldable pub replacing : ℕ → ℕ → ℕ → Knowledge → Knowledge
+replacing p n q k = recoded p n (recoded q (flagCode n (codeAt p k) (codeAt q k)) k)
 
 -- ---- nothing is known
 abbrev pub unknown : Knowledge

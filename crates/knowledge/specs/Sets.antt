@@ -3,10 +3,11 @@
 use Prim.Native.Nat.{ℕ, zero, suc, _+_, _*_, _/_, _%_, _^_}
 use mathlib.Core.Bool.{Bool, true, _&&_, _||_}
 use lib.Dec.{eqb, leb}
+use lib.Bits.{bitOr}
 use Rattle.base.specs.Test.{pick}
 use Rattle.state.specs.Parameter.{recipes}
 use Rattle.state.specs.Alarm.{noAlarm, allAlarms, lasting}
-use Rattle.state.specs.Field.{Field, address, access, phase, keypad, flow, changed, reset, powerfail, recipe, preset, raw, number, alarms, value, level, fieldRange, flagNumber}
+use Rattle.state.specs.Field.{Field, address, access, phase, keypad, flow, changed, reset, powerfail, recipe, preset, raw, number, alarms, value, level, fieldRange, flagNumber, on}
 use Rattle.state.specs.Valid.{within}
 use Rattle.state.specs.Event.{nextNumber}
 
@@ -55,6 +56,18 @@ only c n = eqb c anyNumber || eqb c n
 -- the batch numbers after those of a set
 abbrev pub nextCode : ℕ → ℕ
 nextCode c = pick (eqb c anyNumber) anyNumber (nextNumber c)
+
+-- ---- a flag, where a field of many numbers becomes n (02, L2): by the codes of what the field held and of the flag. Known to be n: the
+-- flag stays; known to be another: on; unknown: "where the flag could be off and the old value could be equal or not, the flag may then
+-- be either; a flag known to be on stays on"
+abbrev pub onMask : ℕ
+onMask = maskOf (λ n. eqb n on)
+
+abbrev pub orOn : ℕ → ℕ
+orOn flag = bitOr flag onMask
+
+unfoldable pub flagCode : ℕ → ℕ → ℕ → ℕ
+flagCode n held flag = pick (eqb held n) flag (pick (eqb held anyNumber) (orOn flag) onMask)
 
 -- ---- alarmed: in the lowest bit whether none may be on; above it what may be on if some are: the number of just these (0: nothing), the
 -- first number that no alarms have for any of the lasting, and each greater one for any

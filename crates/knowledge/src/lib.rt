@@ -8,9 +8,9 @@ use state::Range;
 ghost use mathlib.Core.Path.{_≡_};
 ghost use Prim.Native.Nat.{_≤_};
 ghost use Rattle.state.specs.Alarm.{allAlarms};
-ghost use Rattle.state.specs.Field.{alarms};
-ghost use Rattle.knowledge.specs.Sets.{has, alone, resetCode};
-ghost use Rattle.knowledge.specs.Knowledge.{codeAt, dead, recoded, restricted, told, settled, advanced, alarmsLeft, start};
+ghost use Rattle.state.specs.Field.{changed, alarms, position};
+ghost use Rattle.knowledge.specs.Sets.{has, alone, resetCode, flagCode};
+ghost use Rattle.knowledge.specs.Knowledge.{codeAt, dead, recoded, restricted, told, settled, advanced, alarmsLeft, replacing, start};
 
 // The fields' positions; a parameter has its value and its level behind one another.
 pub const ADDRESS: usize = 0;
@@ -167,6 +167,19 @@ fn after_reset(code: u32) -> u32
     NO_ALARM + 2 * ANY_LASTING
 }
 
+// A flag, where a value becomes n: as it was if the value held is n; on if it is another; as it was or on if that is not known.
+fn flag_after(flag: u32, held: u32, n: u32) -> u32
+    ensures { λ c. ⌜ c ≡ flagCode n held flag ⌝ }
+{
+    if held == n {
+        return flag;
+    }
+    if held == ANY {
+        return flag | ON;
+    }
+    ON
+}
+
 impl Knowledge {
     // No record is possible.
     pub fn refuted(mut self) -> Knowledge
@@ -237,6 +250,18 @@ impl Knowledge {
         ensures { λ k. ⌜ k ≡ alarmsLeft self ⌝ }
     {
         self.put(ALARMS, after_reset(self.code(ALARMS)))
+    }
+
+    // PC: a value becomes n, and "changed" is switched on if that differs from the value held.
+    pub fn set_value(mut self, at: usize, n: u32) -> Knowledge
+        ensures { λ k. ⌜ k ≡ replacing at n (position changed) self ⌝ }
+    {
+        self.codes[CHANGED] = flag_after(self.codes[CHANGED], self.code(at), n);
+        if at < FIELDS {
+            self.codes[at] = n;
+            return self;
+        }
+        self
     }
 
     // The batch number goes on by one, the last to the first.

@@ -1,19 +1,22 @@
 -- What an accepted request changes is learned exactly: the records possible afterwards are those that were possible, changed as the
--- request changes them. Each change of one field has this property and the property composes. Assumes nothing.
+-- request changes them. Each change has this property and the property composes. Assumes nothing.
 use Prim.Native.Nat.{ℕ, _<_}
 use mathlib.Core.Bool.{true}
 use mathlib.Core.Path.{_≡_, refl, ap, _∙_}
 use mathlib.Core.List.{List, [], _∷_}
+use native.Mathlib.Omega.{arith}
 use Rattle.state.specs.declared.Record.{Record}
-use Rattle.state.specs.Field.{Field, access, position, fieldRange, get, put}
+use Rattle.state.specs.Parameter.{parameterCount, rangeAt}
+use Rattle.state.specs.Field.{Field, access, changed, value, position, fieldRange, get, put}
 use Rattle.state.specs.Valid.{within}
 use Rattle.state.proofs.Fields.{Held}
-use Rattle.command.specs.Commands.{Change, becomes, nextBatch, resetAlarms, afterChange, applied}
-use Rattle.command.proofs.Tables.{Fitting}
+use Rattle.command.specs.Commands.{Change, becomes, nextBatch, resetAlarms, newValue, afterChange, applied}
+use Rattle.command.proofs.Tables.{FitsRecord, Fitting}
 use Rattle.knowledge.specs.declared.Knowledge.{Knowledge}
 use Rattle.knowledge.specs.Knowledge.{stepped, becoming, advanced, alarmsLeft}
 use Rattle.knowledge.proofs.Possible.{Possible, Kept}
 use Rattle.knowledge.proofs.Move.{Stepping, stepped-onward, stepped-back, stepped-kept, become-stepping, next-stepping, reset-stepping}
+use Rattle.knowledge.proofs.Replace.{Replacing, replace-onward, replace-back, replace-kept}
 use Rattle.learning.specs.Learn.{movedBy, moved}
 
 -- ---- a move of knowledge that follows a change of the record: what is possible afterwards is the image of what was
@@ -62,10 +65,24 @@ reset : Follows (movedBy resetAlarms) (afterChange resetAlarms)
 unfolding alarmsLeft
 reset = step reset-stepping
 
+-- the value at a place becomes n, and the flag goes by what it was
+replace : (i n : ℕ) → i < parameterCount → within (rangeAt i) n ≡ true → Follows (movedBy (newValue i n)) (afterChange (newValue i n))
+replace i n l w =
+    let s : Replacing (value i) n changed = record { many = refl; held = omega arith; beyond = omega arith; inside = w; few = refl; two = refl; flag-held = omega arith } in
+    record {
+      onward = λ k r kept t. replace-onward s k r (kept .full) t;
+      back = λ k q kept t. replace-back s k q kept t;
+      keeps = λ k kept. replace-kept s k kept;
+    }
+
+one-change : (c : Change) → FitsRecord c → Follows (movedBy c) (afterChange c)
+one-change (becomes f n) h = become f n (h .0) (h .1) (h .2)
+one-change nextBatch h = advance
+one-change resetAlarms h = reset
+one-change (newValue i n) h = replace i n (h .0) (h .1)
+
 -- ---- changes
 pub follows : (cs : List Change) → Fitting cs → Follows (moved cs) (applied cs)
 unfolding moved applied
 follows [] h = stays
-follows (becomes f n ∷ cs) h = follows cs (h .3) then become f n (h .0) (h .1) (h .2)
-follows (nextBatch ∷ cs) h = follows cs h then advance
-follows (resetAlarms ∷ cs) h = follows cs h then reset
+follows (c ∷ cs) h = follows cs (h .1) then one-change c (h .0)

@@ -6,11 +6,12 @@ use lib.Dec.{eqb}
 use Rattle.base.specs.Test.{pick}
 use Rattle.text.specs.declared.Digits.{Digits}
 use Rattle.text.specs.declared.Digits.the-variants as digitsRead
-use Rattle.command.specs.Commands.{Change, becomes, nextBatch, resetAlarms}
+use Rattle.state.specs.Field.{changed, value, position}
+use Rattle.command.specs.Commands.{Change, becomes, nextBatch, resetAlarms, newValue}
 use Rattle.command.specs.Request.{Asked, refused, asked, Guard, guardsOf, levelGuard, replyOf, changesOf}
 use Rattle.knowledge.specs.declared.Knowledge.{Knowledge}
 use Rattle.knowledge.specs.Sets.{maskIn}
-use Rattle.knowledge.specs.Knowledge.{dead, passing, becoming, advanced, alarmsLeft}
+use Rattle.knowledge.specs.Knowledge.{dead, passing, becoming, advanced, alarmsLeft, replacing}
 use Rattle.showing.specs.Heard.{refusalIn}
 use Rattle.showing.specs.Shown.{shown}
 
@@ -38,6 +39,7 @@ abbrev pub movedBy : Change → Knowledge → Knowledge
 movedBy (becomes f n) k = becoming f n k
 movedBy nextBatch k = advanced k
 movedBy resetAlarms k = alarmsLeft k
+movedBy (newValue i n) k = replacing (position (value i)) n (position changed) k
 
 unfoldable pub moved : List Change → Knowledge → Knowledge
 moved [] k = k

@@ -164,7 +164,7 @@ fn move_on(k: Knowledge, request: Writing) -> Knowledge
     ensures { λ r. ⌜ r ≡ moved (changesOf (writingAs request)) k ⌝ }
 {
     match request {
-        Writing::SetValue(place, value) => k.put(CHANGED, ON).put(VALUES + offset(place), value),
+        Writing::SetValue(place, value) => k.set_value(VALUES + offset(place), value),
         Writing::SetLevel(place, level) => {
             let only = alone(LEVEL_RANGE.low, LEVEL_RANGE.high, level as u32);
             k.put(LEVELS + offset(place), only)

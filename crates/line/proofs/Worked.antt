@@ -1,5 +1,5 @@
--- Document 01, "Worked on the bench record": the starred examples, controller and judge together, as one table under one statement. The
--- replies are computed on the definition that the promise of `call` cites. A recording's row is its length, demand 3 itself, and the line
+-- Document 01, "Worked on the bench record": the starred examples, controller and judge together, as one table under one statement; and
+-- 02, L2, on the judge. The replies are computed on the definition that the promise of `call` cites. A recording's row is its length, demand 3 itself, and the line
 -- that `write` lays: the judge's answer is computed on its definition and is right by the theorem. Assumes nothing.
 use Prim.Native.Nat.{ℕ, _+_}
 use Prim.Native.String.{String}
@@ -16,14 +16,15 @@ use Rattle.judging.specs.Judge.{judgementOf, exchangeLearnt, replyLearnt, textL
 use Rattle.recording.specs.Form.{recordingOf, exchangesIn}
 use Rattle.recording.specs.Progress.{passed, answerOf}
 use Rattle.base.specs.Test.{allBetween}
-use Rattle.state.specs.Parameter.{rangeAt, placeOf, placeIn}
+use Rattle.state.specs.Parameter.{codeAt as parameterCode, rangeAt, placeOf, placeIn}
 use Rattle.frame.specs.Frame.{withinLimits, marksRight, checkRight, xorFrom, textIn, namesUnit, addressIn, frameOf}
 use Rattle.frame.specs.Answer.{addressOf, locateOf}
 use Rattle.text.specs.Word.{digits, widthIn, decimal, equal, valueFrom, numberFor}
 use Rattle.command.specs.Commands.{codeIn, formed, digitsBetween, rowOf}
+use Rattle.command.proofs.Fits.{_also_}
 use Rattle.command.specs.Request.{firstByText, firstByArguments, askedWith, askedFor, askedIn, guardsIn}
-use Rattle.knowledge.specs.Sets.{maskFrom, bit}
-use Rattle.knowledge.specs.Knowledge.{codeAt, restricted, told, becoming, advanced, start}
+use Rattle.knowledge.specs.Sets.{maskFrom, bit, flagCode}
+use Rattle.knowledge.specs.Knowledge.{codeAt, restricted, told, becoming, advanced, replacing, start}
 use Rattle.showing.specs.Heard.{numberBehind, weightLit, charactersFormed}
 use Rattle.showing.specs.Shown.{shown, bitsShown, charactersShown, statusShown, wordShown, codesShown, listShown}
 use Rattle.learning.specs.Learn as through
@@ -71,6 +72,15 @@ no-phase = recorded (framed "01SP" gets framed "01NO05" ∷ framed "01SA" gets f
 abbrev pub keypad-off : List ℕ
 keypad-off = recorded (framed "01SA" gets framed "01NO02" ∷ framed "01SB 1" gets framed "01NO05" ∷ [])
 
+-- 02, L2: with the flag off a value is set, and EQ shows the flag so; the second time the value held is known
+abbrev pub unknown-replaced : String → List ℕ
+unknown-replaced status = recorded (EQ-frame gets status-frame ∷ framed "01PC 032 10150" gets OK-frame ∷ EQ-frame gets framed status ∷ [])
+
+abbrev pub known-replaced : String → List ℕ
+known-replaced status =
+    recorded
+    (EQ-frame gets status-frame ∷ framed "01PV 032" gets framed "01PV 032 00010150" ∷ framed "01PC 032 10150" gets OK-frame ∷ EQ-frame gets framed status ∷ [])
+
 -- ---- the table
 abbrev pub table : List Example
 table =
@@ -84,6 +94,12 @@ table =
     ∷ recording no-phase 69 (judged (refuted 3 3)) "refuted at 3 of 3"
     -- "refuted at 2"
     ∷ recording keypad-off 47 (judged (refuted 2 2)) "refuted at 2 of 2"
+    -- "the old value could be equal or not, the flag may then be either"
+    ∷ recording (unknown-replaced "01000000") 77 (judged (fits 3)) "fits 3"
+    ∷ recording (unknown-replaced "01000800") 77 (judged (fits 3)) "fits 3"
+    -- "exactly if the value differs from the one held; else the flag stays"
+    ∷ recording (known-replaced "01000000") 112 (judged (fits 4)) "fits 4"
+    ∷ recording (known-replaced "01000800") 112 (judged (refuted 4 4)) "refuted at 4 of 4"
     ∷ []
 
 -- a recording's row as it is computed, with the answer of the judge's definition
@@ -96,8 +112,12 @@ AllComputed [] = Unit {0}
 AllComputed (e ∷ es) = Computed e × AllComputed es
 
 computed : AllComputed table
-unfolding check judgementOf recordingOf exchangesIn answerOf passed exchangeLearnt replyLearnt textLearnt silenceKept addressOf locateOf withinLimits marksRight checkRight xorFrom textIn allBetween namesUnit addressIn frameOf digits equal valueFrom askedIn askedFor askedWith firstByText firstByArguments guardsIn rowOf codeIn formed digitsBetween learnOf numberBehind numberFor through.passed refusedBy shown statusShown charactersFormed weightLit charactersShown bitsShown listShown codesShown wordShown moved restricted told codeAt becoming advanced start maskFrom bit rangeAt placeOf placeIn widthIn decimal lineOf
-computed = (controller.worked, ((refl, refl, refl), ((refl, refl, refl), ((refl, refl, refl), ((refl, refl, refl), ((refl, refl, refl), tt))))))
+unfolding check judgementOf recordingOf exchangesIn answerOf passed exchangeLearnt replyLearnt textLearnt silenceKept addressOf locateOf withinLimits marksRight checkRight xorFrom textIn allBetween namesUnit addressIn frameOf digits equal valueFrom askedIn askedFor askedWith firstByText firstByArguments guardsIn rowOf codeIn formed digitsBetween learnOf numberBehind numberFor through.passed refusedBy shown statusShown charactersFormed weightLit charactersShown bitsShown listShown codesShown wordShown moved restricted told codeAt becoming advanced replacing flagCode start maskFrom bit parameterCode rangeAt placeOf placeIn widthIn decimal lineOf
+computed = (
+  controller.worked,
+  (refl, refl, refl) also (refl, refl, refl) also (refl, refl, refl) also (refl, refl, refl) also (refl, refl, refl) also
+      (refl, refl, refl) also (refl, refl, refl) also (refl, refl, refl) also (refl, refl, refl) also tt,
+)
 
 -- and that answer is right by the theorem
 right : (e : Example) → Computed e → Holds e

@@ -3,3 +3,4 @@ pub mod Consequences
 pub mod Exact
 pub mod Bites
 pub mod Alarms
+pub mod Flag

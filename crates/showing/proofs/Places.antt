@@ -5,7 +5,7 @@ use mathlib.Core.Path.{_≡_, refl, sym, ap, _∙_}
 use native.Mathlib.Omega.{arith}
 use lib.Bits.{bitAnd}
 use lib.Dec.{eqb, ltb}
-use lib.ListN.{length}
+use lib.ListN.{length, length-set}
 use borrow.Author.Tests.{lt-ltb, le-ltb, ltb-false}
 use Rattle.base.specs.Test.{pick}
 use Rattle.state.specs.declared.Range.{Range}
@@ -15,8 +15,8 @@ use Rattle.state.specs.Valid.{within}
 use Rattle.text.specs.declared.Digits.{Digits}
 use Rattle.text.specs.declared.Digits.the-variants as digitsRead
 use Rattle.knowledge.specs.declared.Knowledge.{Knowledge}
-use Rattle.knowledge.specs.Sets.{only}
-use Rattle.knowledge.specs.Knowledge.{dead, recoded, restricted, told}
+use Rattle.knowledge.specs.Sets.{only, flagCode}
+use Rattle.knowledge.specs.Knowledge.{codeAt, dead, recoded, restricted, told, replacing}
 use Rattle.knowledge.proofs.Steps.{code-beyond, put-beyond}
 use Rattle.showing.specs.Shown.{offsetOf, restrictedBy, toldBy}
 
@@ -46,6 +46,13 @@ module _ (k : Knowledge) (full : length (k .codes) ≡ position (value parameter
 
   pub put-placed : (c first i : ℕ) → position (value 0) ≤ first → recoded (first + offsetOf i) c k ≡ recoded (first + 2 * i) c k
   put-placed c = placed (λ p. recoded p c k) k (λ p h. sym (put-beyond k p _ full h c))
+
+  pub replace-placed : (n q first i : ℕ) → position (value 0) ≤ first → replacing (first + offsetOf i) n q k ≡ replacing (first + 2 * i) n q k
+  unfolding replacing
+  replace-placed n q =
+      placed (λ p. replacing p n q k) (recoded q (flagCode n 0 (codeAt q k)) k) (λ p h.
+      ap (λ (c : ℕ). recoded p n (recoded q (flagCode n c (codeAt q k)) k)) (sym (code-beyond k p _ full h))
+      ∙ sym (put-beyond (recoded q (flagCode n 0 (codeAt q k)) k) p _ (length-set (k .codes) q (flagCode n 0 (codeAt q k)) ∙ full) h n))
 
   pub restrict-placed : (m first i : ℕ) → position (value 0) ≤ first → restricted (first + offsetOf i) m k ≡ restricted (first + 2 * i) m k
   unfolding restricted

@@ -124,16 +124,16 @@ module _ (first n : ℕ) (f : Field) (xs : List ℕ) where
   put-at-kept h =
       simp (and-no (leb first (position f)) (eqb ((position f - first) % 2) 0) (λ a b. h a (eqb-true ((position f - first) % 2) 0 b)))
 
--- the record with other lists
-abbrev pub withLists : List ℕ → List ℕ → Record → Record
-withLists vs ls r =
+-- the record with another "changed" and other lists
+abbrev pub withParts : Bool → List ℕ → List ℕ → Record → Record
+withParts b vs ls r =
     record {
       address = r .address;
       access = r .access;
       phase = r .phase;
       keypad = r .keypad;
       flow = r .flow;
-      changed = r .changed;
+      changed = b;
       reset = r .reset;
       powerfail = r .powerfail;
       recipe = r .recipe;
@@ -144,6 +144,14 @@ withLists vs ls r =
       values = vs;
       levels = ls;
     }
+
+abbrev pub withLists : List ℕ → List ℕ → Record → Record
+withLists vs ls r = withParts (r .changed) vs ls r
+
+pub put-changed : (b : Bool) (r : Record) → withParts b (r .values) (r .levels) r ≡ put changed (flagNumber b) r
+unfolding put
+put-changed true r = refl
+put-changed false r = refl
 
 -- ---- a parameter's field as a store to one of the two lists
 abbrev firstValue : ℕ

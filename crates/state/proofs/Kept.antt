@@ -1,5 +1,5 @@
--- A record is valid exactly if each field lies in its own range; so a write within a field's range, a panel event, a phase change
--- and AR keep it valid. Assumes nothing.
+-- A record is valid exactly if each field lies in its own range; so a write within a field's range, a panel event, a phase change,
+-- AR and PC keep it valid. Assumes nothing.
 use Prim.Native.Nat.{ℕ, zero, suc, _+_, _%_, _≤_, _<_}
 use mathlib.Core.Bool.{Bool, true, false, _&&_, _||_}
 use mathlib.Core.Path.{_≡_, refl, sym, ap, _∙_}
@@ -16,7 +16,7 @@ use Rattle.state.specs.Parameter.{parameterCount}
 use Rattle.state.specs.Alarm.{isAlarm, raised, cleared, lasting}
 use Rattle.state.specs.Field.{Field, address, phase, keypad, flow, reset, powerfail, preset, raw, number, alarms, value, level, get, put, position, fieldRange, scalarFields, fieldsFor, parameterFields, on, off}
 use Rattle.state.specs.Valid.{within, allIn, fullLength, valid}
-use Rattle.state.specs.Event.{set, running, stopped, done, idle, inPhase, pulses, finished, powerBack, keypadOn, alarmChanged, happened, after, nextNumber, batchSet, started, halted, ended, alarmsReset}
+use Rattle.state.specs.Event.{set, running, stopped, done, idle, inPhase, pulses, finished, powerBack, keypadOn, alarmChanged, happened, after, nextNumber, batchSet, started, halted, ended, alarmsReset, flagAfter, replaced}
 use Rattle.base.proofs.Tests.{by-test, and-yes, and-left, and-right, between-yes}
 use Rattle.state.proofs.Fields.{Held, by-fields, scalar-at, same-field, get-put-same, get-put-other, put-values-length, put-levels-length}
 use Rattle.state.proofs.Alarms.{raised-within, cleared-within, lasting-within}
@@ -141,6 +141,14 @@ module _ (r : Record) (v : valid r ≡ true) where
 
   pub reset-kept : valid (alarmsReset r) ≡ true
   reset-kept = put-kept r v alarms (lasting (get alarms r)) lasting-in
+
+  -- a flag that a value's difference switches on
+  module _ (flag : Field) (held : Held flag) (lit : within (fieldRange flag) on ≡ true) where
+    pub flag-in : (m n : ℕ) → within (fieldRange flag) (flagAfter m n (get flag r)) ≡ true
+    flag-in m n = by-test (eqb m n) (λ e. simp e (field-in r v flag held)) (λ e. simp e lit)
+
+    pub replaced-kept : (f : Field) (n : ℕ) → within (fieldRange f) n ≡ true → valid (replaced f n flag r) ≡ true
+    replaced-kept f n h = let m = flagAfter (get f r) n (get flag r) in put-kept (put flag m r) (put-kept r v flag m (flag-in (get f r) n)) f n h
 
 -- a record that is not valid comes back unchanged
 pub after-unchanged : (e : Event) (r : Record) → valid r ≡ false → after e r ≡ r

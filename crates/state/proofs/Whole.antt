@@ -1,25 +1,26 @@
 -- A record is its fields: there is one that holds any numbers within the ranges, and two records that hold the same in each field are
--- equal. Assumes nothing.
+-- equal; so a value that is set to the one held changes nothing. Assumes nothing.
 use Prim.Native.Nat.{ℕ, zero, suc, _+_, _<_}
 use mathlib.Core.Bool.{Bool, true, false}
-use mathlib.Core.Path.{_≡_, refl, sym, ap, _∙_}
+use mathlib.Core.Path.{_≡_, refl, sym, ap, subst, _∙_}
 use mathlib.Core.List.{List, [], _∷_, _++_, map}
 use mathlib.Core.Logic.{⊎-elim}
 use native.Mathlib.Nat.{eq-or-lt-of-le}
 use native.Mathlib.Omega.{arith}
-use lib.Dec.{ltb}
+use lib.Dec.{eqb, ltb}
 use lib.ListN.{length, getD, length-append, List·getD-append}
 use lib.Seq.{getD-append-add, ext-getD}
-use borrow.Author.Tests.{lt-ltb, ltb-true}
+use borrow.Author.Tests.{eqb-true, eqb-false, eq-eqb, ne-eqb, lt-ltb, ltb-true}
 use Rattle.base.specs.Test.{pick}
-use Rattle.base.proofs.Tests.{holds-below}
+use Rattle.base.proofs.Tests.{by-test, between-yes, holds-below}
 use Rattle.state.specs.declared.Record.{Record}
 use Rattle.state.specs.Parameter.{parameterCount, rangeAt}
-use Rattle.state.specs.Field.{Field, address, value, level, get, fieldRange, position, scalarFields, listed, recordFrom}
+use Rattle.state.specs.Field.{Field, address, value, level, get, put, fieldRange, position, scalarFields, listed, recordFrom, on}
 use Rattle.state.specs.Valid.{within, valid}
-use Rattle.state.proofs.Fields.{Held, by-fields, by-list, settled, settling, phase-back, flag-back}
+use Rattle.state.specs.Event.{flagAfter, replaced}
+use Rattle.state.proofs.Fields.{Held, by-fields, by-list, same-field, settled, settling, phase-back, flag-back, get-put-same, get-put-other}
 use Rattle.state.proofs.Validity.{valid-tell}
-use Rattle.state.proofs.Kept.{fields-in}
+use Rattle.state.proofs.Kept.{field-in, fields-in, put-kept}
 
 -- ---- a record of given numbers
 pub listed-length : (w : ℕ → ℕ) (n : ℕ) → length (listed w n) ≡ n
@@ -91,11 +92,44 @@ same-fields r s v w same = sym (whole r v) ∙ (ap recordFrom (λ i f. equal f i
         go true e = same f (ltb-true _ _ e)
         go false e = refl
 
--- each field's low end lies in its range
-pub low-within : (f : Field) → Held f → within (fieldRange f) (fieldRange f .low) ≡ true
+-- ---- a field that gets the number it holds
+
+-- a record that differs from a valid one in one field at most is that one when the field gets its number
+pub put-over : (r s : Record) (f : Field) → valid r ≡ true → valid s ≡ true → Held f → ((g : Field) → (position f ≡ position g → ⊥) → get g s ≡ get g r) → (n : ℕ) → n ≡ get f r → put f n s ≡ r
+put-over r s f v w held others n e =
+    let t = valid-tell s w in
+    let inside : within (fieldRange f) n ≡ true = ap (within (fieldRange f)) e ∙ field-in r v f held in
+    same-fields (put f n s) r (put-kept s w f n inside) v (λ g h.
+    by-test (eqb (position f) (position g))
+    (λ q.
+    subst (λ (x : Field). get x (put f n s) ≡ get x r) (same-field f g (eqb-true _ _ q))
+    (get-put-same s (t .values-length) (t .levels-length) f n held inside ∙ e))
+    (λ q. let other = eqb-false _ _ q in get-put-other f g n s other ∙ others g other))
+
+-- its own
+pub put-own : (r : Record) (f : Field) → valid r ≡ true → Held f → (n : ℕ) → n ≡ get f r → put f n r ≡ r
+put-own r f v held n e = put-over r r f v v held (λ g h. refl) n e
+
+-- ---- a value that is set, and the flag
+module _ (r : Record) (f flag : Field) (n : ℕ) where
+  -- the value held: nothing changes
+  pub replaced-same : valid r ≡ true → Held f → Held flag → get f r ≡ n → replaced f n flag r ≡ r
+  replaced-same v h i e =
+      let stays : put flag (flagAfter (get f r) n (get flag r)) r ≡ r = simp (eq-eqb (get f r) n e) (put-own r flag v i (get flag r) refl) in
+      ap (put f n) stays ∙ put-own r f v h n (sym e)
+
+  -- another: both change
+  pub replaced-other : (get f r ≡ n → ⊥) → replaced f n flag r ≡ put f n (put flag on r)
+  replaced-other h = simp (ne-eqb (get f r) n h)
+
+-- ---- each field's range has at least two numbers, its low end among them
+pub range-wide : (f : Field) → Held f → fieldRange f .low < fieldRange f .high
 unfolding rangeAt
-low-within =
-    by-fields (λ (f : Field). Held f → within (fieldRange f) (fieldRange f .low) ≡ true)
-    (λ k l h. by-list (λ (f : Field). within (fieldRange f) (fieldRange f .low)) (λ f. true) refl k)
-    (λ i h. holds-below (λ (j : ℕ). within (rangeAt j) (rangeAt j .low)) parameterCount refl i (omega arith))
-    (λ i h. refl)
+range-wide =
+    by-fields (λ (f : Field). Held f → fieldRange f .low < fieldRange f .high)
+    (λ k l h. ltb-true _ _ (by-list (λ (f : Field). ltb (fieldRange f .low) (fieldRange f .high)) (λ f. true) refl k))
+    (λ i h. ltb-true _ _ (holds-below (λ (j : ℕ). ltb (rangeAt j .low) (rangeAt j .high)) parameterCount refl i (omega arith)))
+    (λ i h. omega arith)
+
+pub low-within : (f : Field) → Held f → within (fieldRange f) (fieldRange f .low) ≡ true
+low-within f h = let l = range-wide f h in between-yes _ _ (fieldRange f .low) (omega arith) (omega arith)

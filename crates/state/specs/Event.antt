@@ -1,4 +1,5 @@
--- Document 01, "What the panel does", with the alarms of 02, L1; the phase changes of SB, SA, SP and ET; and what AR leaves.
+-- Document 01, "What the panel does", with the alarms of 02, L1; the phase changes of SB, SA, SP and ET; what AR leaves; and
+-- what a value that is set does to a flag (02, L2).
 use Prim.Native.Nat.{ℕ, _+_, _%_}
 use mathlib.Core.Bool.{Bool, _&&_, _||_}
 use lib.Dec.{eqb, leb, ltb}
@@ -8,7 +9,7 @@ use Rattle.state.specs.declared.Event.the-variants.{Pulses, Still, Keypa
 use Rattle.state.specs.declared.Record.{Record}
 use Rattle.base.specs.Test.{pick}
 use Rattle.state.specs.Alarm.{isAlarm, raised, cleared, lasting}
-use Rattle.state.specs.Field.{phase, keypad, flow, reset, powerfail, preset, raw, number, alarms, phaseNumber, on, off, fieldRange, get, put}
+use Rattle.state.specs.Field.{Field, phase, keypad, flow, reset, powerfail, preset, raw, number, alarms, phaseNumber, on, off, fieldRange, get, put}
 use Rattle.state.specs.Valid.{valid}
 
 -- the phases by number
@@ -92,3 +93,11 @@ ended r = put phase idle r
 -- AR: the lasting alarms
 abbrev pub alarmsReset : Record → Record
 alarmsReset r = put alarms (lasting (get alarms r)) r
+
+-- PC: "switch the flag on exactly if the value differs from the one held; else the flag stays"
+abbrev pub flagAfter : ℕ → ℕ → ℕ → ℕ
+flagAfter held new flag = pick (eqb held new) flag on
+
+-- a field gets n, and a flag goes by the number held before
+abbrev pub replaced : Field → ℕ → Field → Record → Record
+replaced f n flag r = put f n (put flag (flagAfter (get f r) n (get flag r)) r)

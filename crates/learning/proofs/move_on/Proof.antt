@@ -1,5 +1,5 @@
 -- `learning::move_on` meets its contract: each arm makes the changes of the request that was matched. Assumes nothing.
-use Rattle.learning.proofs.Moving.{moving, place-moved}
+use Rattle.learning.proofs.Moving.{moving, value-moved, place-moved}
 use Rattle.text.specs.Word.{equal}
 use Rattle.command.specs.Commands.{rowOf}
 use Rattle.knowledge.specs.Sets.{maskFrom}
@@ -14,7 +14,6 @@ move-on-spec =
     (tie.spec
     (λ c. search needs)
     (λ c κs. search needs)
-    (λ c κs. search needs)
     (λ c. search needs)
     (λ c κs. search needs)
     (λ c. search needs)
@@ -45,7 +44,7 @@ move-on-spec =
     (λ c κs. search needs)
     (λ c. search needs)
     (λ c κs. search needs)
-    (λ c. search (moving, place-moved, needs))
+    (λ c. search (moving, value-moved, needs))
     (λ c. search (moving, place-moved, needs))
     (λ c. search moving)
     (λ c. search moving depth 8)
