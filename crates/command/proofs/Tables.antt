@@ -2,23 +2,21 @@
 -- request changes exactly the fields of its row. Assumes nothing.
 use Prim.Native.Nat.{ℕ, zero, suc, _<_}
 use mathlib.Core.Bool.{Bool, true, false}
-use mathlib.Core.Path.{_≡_, refl, sym, ap, ap₂, _∙_}
+use mathlib.Core.Path.{_≡_, refl, ap, ap₂, _∙_}
 use mathlib.Core.List.{List, [], _∷_}
 use native.Mathlib.Nat.{not-suc-le-zero, le-of-suc-le-suc}
 use native.Mathlib.Omega.{arith}
 use lib.Dec.{eqb}
 use lib.ListN.{length, getD}
-use borrow.Author.Tests.{eqb-true, eqb-false}
-use Rattle.base.proofs.Tests.{by-test}
+use borrow.Author.Tests.{eq-eqb, ne-eqb}
 use Rattle.state.specs.declared.Record.{Record}
 use Rattle.base.specs.Test.{pick}
 use Rattle.state.specs.Alarm.{lasting}
 use Rattle.state.specs.Parameter.{parameterCount, rangeAt}
 use Rattle.state.specs.Field.{Field, access, changed, number, alarms, value, get, put, position, fieldRange}
 use Rattle.state.specs.Valid.{within, valid}
-use Rattle.state.proofs.Fields.{Held, same-field, get-put-same, get-put-other}
-use Rattle.state.proofs.Validity.{valid-tell}
-use Rattle.state.proofs.Kept.{put-kept, next-in, lasting-in, reset-kept, flag-in, replaced-kept}
+use Rattle.state.proofs.Fields.{Held, at-field, get-put-other}
+use Rattle.state.proofs.Kept.{get-put-own, put-kept, next-in, lasting-in, reset-kept, flag-in, replaced-kept}
 use Rattle.state.specs.Event.{nextNumber, flagAfter}
 use Rattle.command.specs.Commands.{Change, becomes, nextBatch, resetAlarms, newValue, afterChange, applied}
 use Rattle.command.specs.Refusals.{Row, byText, applies, rowNumber}
@@ -123,13 +121,10 @@ module _ (s : Record) (v : valid s ≡ true) where
   module _ (w : Field → ℕ) (before : (g : Field) → get g s ≡ w g) where
     -- a number put into a field shows there, and each other field holds what it held
     pub put-reads : (f : Field) (n m : ℕ) → Held f → within (fieldRange f) n ≡ true → n ≡ m → (g : Field) → get g (put f n s) ≡ assigned f m w g
-    put-reads f n m h i e g =
-        by-test (eqb (position f) (position g))
-        (λ same.
-        let t = valid-tell s v in
-        let q : f ≡ g = same-field f g (eqb-true _ _ same) in
-        simp same (ap (λ (x : Field). get x (put f n s)) (sym q) ∙ (get-put-same s (t .values-length) (t .levels-length) f n h i ∙ e)))
-        (λ other. simp other (get-put-other f g n s (eqb-false _ _ other) ∙ before g))
+    put-reads f n m h i e =
+        at-field f (λ g. get g (put f n s) ≡ assigned f m w g)
+        (simp (eq-eqb (position f) (position f) refl) (get-put-own s v f n h i ∙ e))
+        (λ g other. simp (ne-eqb (position f) (position g) other) (get-put-other f g n s other ∙ before g))
 
 change-reads : (s : Record) → valid s ≡ true → (w : Field → ℕ) → ((g : Field) → get g s ≡ w g)
     → (c : Change) → FitsRecord c → (g : Field) → get g (afterChange c s) ≡ given c w g

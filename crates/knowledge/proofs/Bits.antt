@@ -1,64 +1,25 @@
--- Masks, digit by digit: the bits of what two masks share or have together, of the numbers that pass a test, and of a mask that is not empty. Assumes
--- nothing.
-use Prim.Native.Nat.{ℕ, zero, suc, _+_, _*_, _/_, _%_, _≤_, _<_, min, max}
+-- Masks, bit by bit: what two masks share or have together, the numbers that pass a test, and a mask that is not empty. Assumes nothing.
+use Prim.Native.Nat.{ℕ, zero, suc, _+_, _*_, _/_, _%_, _≤_, _<_}
 use mathlib.Core.Bool.{Bool, true, false, _&&_, _||_}
 use mathlib.Core.Path.{_≡_, refl, ap, _∙_}
 use native.Mathlib.Omega.{arith}
 use lib.Dec.{eqb}
-use lib.Bits.{bitAnd, bitOr, and-step, or-step}
+use lib.Bits.{bitAnd, bitOr, and-shr, or-shr}
 use borrow.Author.Tests.{eq-eqb, ne-eqb}
+use Rattle.base.proofs.Bits.{low-and, low-or}
 use Rattle.state.specs.Field.{flagNumber}
 use Rattle.knowledge.specs.Sets.{bit, maskFrom}
 
--- ---- two masks joined digit by digit
-module _ (op digit : ℕ → ℕ → ℕ) (test : Bool → Bool → Bool) (step : (a b : ℕ) → op a b ≡ op (a / 2) (b / 2) * 2 + digit (a % 2) (b % 2))
-    (digit-as : (x y : Bool) → digit (flagNumber x) (flagNumber y) ≡ flagNumber (test x y)) where
-  of-digit : (x y : Bool) → (digit (flagNumber x) (flagNumber y) < 2) × (eqb (digit (flagNumber x) (flagNumber y)) 1 ≡ test x y)
-  of-digit x y = rw (digit-as x y) (go (test x y))
-    where
-      go : (t : Bool) → (flagNumber t < 2) × (eqb (flagNumber t) 1 ≡ t)
-      go true = (omega arith, refl)
-      go false = (omega arith, refl)
-
-  digit-joined : (x y : ℕ) → x < 2 → y < 2 → (digit x y < 2) × (eqb (digit x y) 1 ≡ test (eqb x 1) (eqb y 1))
-  digit-joined zero zero h k = of-digit false false
-  digit-joined zero (suc zero) h k = of-digit false true
-  digit-joined zero (suc (suc y)) h k = absurd (omega arith)
-  digit-joined (suc zero) zero h k = of-digit true false
-  digit-joined (suc zero) (suc zero) h k = of-digit true true
-  digit-joined (suc zero) (suc (suc y)) h k = absurd (omega arith)
-  digit-joined (suc (suc x)) y h k = absurd (omega arith)
-
-  bit-joined : (n a b : ℕ) → bit (op a b) n ≡ test (bit a n) (bit b n)
-  unfolding bit
-  bit-joined zero a b =
-      let d = digit-joined (a % 2) (b % 2) (omega arith) (omega arith) in
-      let e : op a b % 2 ≡ digit (a % 2) (b % 2) = let l = d .0 in omega (arith, step a b) in
-      rw e (d .1)
-  bit-joined (suc n) a b =
-      let l = digit-joined (a % 2) (b % 2) (omega arith) (omega arith) .0 in
-      let e : op a b / 2 ≡ op (a / 2) (b / 2) = omega (arith, step a b) in
-      rw e (bit-joined n (a / 2) (b / 2))
-
--- what they share
+-- ---- two masks: what they share, and what they have together
 pub bit-and : (n a b : ℕ) → bit (bitAnd a b) n ≡ (bit a n && bit b n)
-bit-and = bit-joined bitAnd min _&&_ and-step and-digit
-  where
-    and-digit : (x y : Bool) → min (flagNumber x) (flagNumber y) ≡ flagNumber (x && y)
-    and-digit true true = refl
-    and-digit true false = refl
-    and-digit false true = refl
-    and-digit false false = refl
+unfolding bit
+bit-and zero a b = low-and a b
+bit-and (suc n) a b = ap (λ (m : ℕ). bit m n) (and-shr a b 1) ∙ bit-and n (a / 2) (b / 2)
 
--- what they have together
 pub bit-or : (n a b : ℕ) → bit (bitOr a b) n ≡ (bit a n || bit b n)
-bit-or = bit-joined bitOr max _||_ or-step or-digit
-  where
-    or-digit : (x y : Bool) → max (flagNumber x) (flagNumber y) ≡ flagNumber (x || y)
-    or-digit true true = refl
-    or-digit true false = refl
-    or-digit false true = refl
-    or-digit false false = refl
+unfolding bit
+bit-or zero a b = low-or a b
+bit-or (suc n) a b = ap (λ (m : ℕ). bit m n) (or-shr a b 1) ∙ bit-or n (a / 2) (b / 2)
 
 -- ---- the empty mask, and any other
 pub bit-zero : (n : ℕ) → bit 0 n ≡ false

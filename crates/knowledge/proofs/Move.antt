@@ -16,9 +16,8 @@ use Rattle.state.specs.Field.{Field, access, number, alarms, value, get, put, p
 use Rattle.state.specs.Valid.{within}
 use Rattle.state.specs.Event.{nextNumber}
 use Rattle.state.proofs.Alarms.{lasting-within}
-use Rattle.state.proofs.Fields.{Held, get-put-same, get-put-other}
-use Rattle.state.proofs.Validity.{valid-tell}
-use Rattle.state.proofs.Kept.{next-within}
+use Rattle.state.proofs.Fields.{Held, get-put-other}
+use Rattle.state.proofs.Kept.{get-put-own, next-within}
 use Rattle.state.proofs.Whole.{put-over}
 use Rattle.knowledge.specs.declared.Knowledge.{Knowledge}
 use Rattle.knowledge.specs.Sets.{anyNumber, only, has, alone, nextCode, resetCode}
@@ -50,8 +49,7 @@ module _ {f : Field} {step code : ℕ → ℕ} (s : Stepping f step code) (k : K
       let some = kept .some (t .living) f held in
       let b = s .back own (get f q) (some .0) (some .1) (recode-own k q f (code own) (kept .full) held t) in
       let before = recode-back k q f (code own) (b .0) (kept .full) held t (b .1) in
-      let v = valid-tell q (t .sound) in
-      let same : get f (put f (b .0) q) ≡ b .0 = get-put-same q (v .values-length) (v .levels-length) f (b .0) held (has-within f own (b .0) (b .1)) in
+      let same : get f (put f (b .0) q) ≡ b .0 = get-put-own q (t .sound) f (b .0) held (has-within f own (b .0) (b .1)) in
       (put f (b .0) q, before, put-over q (put f (b .0) q) f (t .sound) (before .sound) held (λ g n. get-put-other f g (b .0) q n) _ (ap step same ∙ b .2))
 
   pub stepped-kept : {a c : ℕ} → Kept a c k → Kept a c (stepped f code k)

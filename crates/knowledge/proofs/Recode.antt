@@ -1,33 +1,22 @@
 -- One field's code replaced: which records are possible then, and what is kept. A field is the one whose code changes or has another
 -- position, so no law has a case per field. Assumes nothing.
 use Prim.Native.Nat.{ℕ, _<_}
-use mathlib.Core.Bool.{Bool, true, false}
+use mathlib.Core.Bool.{true}
 use mathlib.Core.Path.{_≡_, refl, sym, ap, ap₂, subst, _∙_}
 use native.Mathlib.Omega.{arith}
-use lib.Dec.{eqb}
 use lib.ListN.{length, length-set}
 use lib.Seq.{getD-set-same, getD-set-other}
-use borrow.Author.Tests.{eqb-true, eqb-false}
 use Rattle.state.specs.declared.Record.{Record}
 use Rattle.state.specs.Parameter.{parameterCount}
 use Rattle.state.specs.Field.{Field, address, access, value, get, put, position}
-use Rattle.state.proofs.Fields.{Held, same-field, get-put-same, get-put-other}
-use Rattle.state.proofs.Validity.{valid-tell}
-use Rattle.state.proofs.Kept.{put-kept}
+use Rattle.state.proofs.Fields.{Held, at-field, get-put-other}
+use Rattle.state.proofs.Kept.{get-put-own, put-kept}
 use Rattle.state.proofs.Whole.{put-own}
 use Rattle.knowledge.specs.declared.Knowledge.{Knowledge}
 use Rattle.knowledge.specs.Sets.{has}
 use Rattle.knowledge.specs.Knowledge.{codeAt, recoded}
 use Rattle.knowledge.proofs.Possible.{Possible, Kept}
 use Rattle.knowledge.proofs.Codes.{has-within}
-
--- what holds of a field and of each other one holds of all
-pub each-field : (f : Field) (P : Field → Type 0) → P f → ((g : Field) → Held g → (position f ≡ position g → ⊥) → P g) → (g : Field) → Held g → P g
-each-field f P own other g h = go (eqb (position f) (position g)) refl
-  where
-    go : (b : Bool) → eqb (position f) (position g) ≡ b → P g
-    go true e = subst P (same-field f g (eqb-true _ _ e)) own
-    go false e = other g h (eqb-false _ _ e)
 
 -- ---- the code at a field's position
 module _ (k : Knowledge) (f : Field) (code : ℕ) where
@@ -46,14 +35,13 @@ put-possible : (k l : Knowledge) (r : Record) (f : Field) (n : ℕ) → Held f �
     → ((g : Field) → (position f ≡ position g → ⊥) → codeAt (position g) l ≡ codeAt (position g) k) → Possible k r → has f (codeAt (position f) l) n ≡ true → Possible l (put f n r)
 put-possible k l r f n held alive others t h =
     let w = has-within f (codeAt (position f) l) n h in
-    let v = valid-tell r (t .sound) in
     record {
       living = alive ∙ t .living;
       sound = put-kept r (t .sound) f n w;
       each =
-          each-field f (λ g. has g (codeAt (position g) l) (get g (put f n r)) ≡ true)
-          (ap (has f (codeAt (position f) l)) (get-put-same r (v .values-length) (v .levels-length) f n held w) ∙ h)
-          (λ g i o. ap₂ (has g) (others g o) (get-put-other f g n r o) ∙ t .each g i);
+          at-field f (λ g. Held g → has g (codeAt (position g) l) (get g (put f n r)) ≡ true)
+          (λ i. ap (has f (codeAt (position f) l)) (get-put-own r (t .sound) f n held w) ∙ h)
+          (λ g o i. ap₂ (has g) (others g o) (get-put-other f g n r o) ∙ t .each g i);
     }
 
 module _ (k : Knowledge) (r : Record) (f : Field) (code n : ℕ) (full : length (k .codes) ≡ position (value parameterCount)) (held : Held f) where
@@ -79,9 +67,9 @@ module _ (k : Knowledge) (f : Field) (code : ℕ) (full : length (k .codes) ≡ 
   pub recode-some : (n : ℕ) × (has f code n ≡ true) → ((g : Field) → Held g → (n : ℕ) × (has g (codeAt (position g) k) n ≡ true))
       → (g : Field) → Held g → (n : ℕ) × (has g (codeAt (position g) (recoded (position f) code k)) n ≡ true)
   recode-some own some =
-      each-field f (λ g. (n : ℕ) × (has g (codeAt (position g) (recoded (position f) code k)) n ≡ true))
-      (own .0, ap (λ (d : ℕ). has f d (own .0)) (code-same k f code full held) ∙ own .1)
-      (λ g h n. let s = some g h in (s .0, ap (λ (d : ℕ). has g d (s .0)) (code-other k f code g n) ∙ s .1))
+      at-field f (λ g. Held g → (n : ℕ) × (has g (codeAt (position g) (recoded (position f) code k)) n ≡ true))
+      (λ h. (own .0, ap (λ (d : ℕ). has f d (own .0)) (code-same k f code full held) ∙ own .1))
+      (λ g o h. let s = some g h in (s .0, ap (λ (d : ℕ). has g d (s .0)) (code-other k f code g o) ∙ s .1))
 
 pub recode-kept : {a c : ℕ} (k : Knowledge) (f : Field) (code : ℕ) → Kept a c k → Held f → position access < position f
     → (k .alive ≡ true → (n : ℕ) × (has f code n ≡ true)) → Kept a c (recoded (position f) code k)

@@ -16,9 +16,8 @@ use Rattle.state.specs.Parameter.{parameterCount, range}
 use Rattle.state.specs.Field.{Field, access, value, get, put, position, fieldRange, off, on}
 use Rattle.state.specs.Valid.{within, valid}
 use Rattle.state.specs.Event.{flagAfter, replaced}
-use Rattle.state.proofs.Fields.{Held, same-field, get-put-same, get-put-other}
-use Rattle.state.proofs.Validity.{valid-tell}
-use Rattle.state.proofs.Kept.{put-kept}
+use Rattle.state.proofs.Fields.{Held, same-field, get-put-other}
+use Rattle.state.proofs.Kept.{get-put-own, put-kept}
 use Rattle.state.proofs.Whole.{put-over, range-wide, low-within}
 use Rattle.knowledge.specs.declared.Knowledge.{Knowledge}
 use Rattle.knowledge.specs.Sets.{Kind, several, single, kindOf, maskFrom, maskOf, anyNumber, only, onMask, orOn, flagCode, has, alone, aloneOf}
@@ -131,10 +130,10 @@ module _ {f : Field} {n : ℕ} {flag : Field} (s : Replacing f n flag) where
       p-sound = put-kept q sound f w in-w
 
       held-w : get f r ≡ w
-      held-w = let t = valid-tell q sound in get-put-other flag f v p (λ z. apart (sym z)) ∙ get-put-same q (t .values-length) (t .levels-length) f w (s .held) in-w
+      held-w = get-put-other flag f v p (λ z. apart (sym z)) ∙ get-put-own q sound f w (s .held) in-w
 
       held-v : get flag r ≡ v
-      held-v = let t = valid-tell p p-sound in get-put-same p (t .values-length) (t .levels-length) flag v (s .flag-held) in-v
+      held-v = get-put-own p p-sound flag v (s .flag-held) in-v
 
       now : flagAfter (get f r) n (get flag r) ≡ get flag p
       now = ap₂ (λ (x y : ℕ). flagAfter x n y) held-w held-v ∙ (g ∙ sym (get-put-other f flag w q apart))

@@ -100,16 +100,19 @@ pub ruleset phase-passing = (any-passed, some-passed)
 pub ruleset phase-meeting = (any-met, some-met, none-met)
 
 -- ---- one guard, if it is tested
-module _ (b : Bool) (g : Guard) (k s : Knowledge) where
-  pub guard-passed : b ≡ true → s ≡ passing (g .field) (λ n. not (g .refuses n)) k → s ≡ passed (pick b (g ∷ []) []) k
-  unfolding passed
-  guard-passed h e = simp h e
+pub if-tested : (b : Bool) (k s t : Knowledge) → b ≡ true → s ≡ t → s ≡ pick b t k
+if-tested b k s t h e = simp h e
 
-  pub guard-untested : b ≡ false → s ≡ k → s ≡ passed (pick b (g ∷ []) []) k
-  unfolding passed
-  guard-untested h e = simp h e
+pub if-untested : (b : Bool) (k s t : Knowledge) → b ≡ false → s ≡ k → s ≡ pick b t k
+if-untested b k s t h e = simp h e
 
-pub ruleset guard-passing = (guard-passed, guard-untested)
+abbrev passIf : Bool → Guard → Knowledge → Knowledge
+passIf b g k = pick b (passing (g .field) (λ n. not (g .refuses n)) k) k
+
+passed-if : (b : Bool) (g : Guard) (k : Knowledge) → passIf b g k ≡ passed (pick b (g ∷ []) []) k
+unfolding passed
+passed-if true g k = refl
+passed-if false g k = refl
 
 module _ (g : Guards) (a : ℕ) (k s : Knowledge) where
   pub level-untested : g .level ≡ false → s ≡ k → s ≡ passed (levelGuards a g) k
@@ -159,20 +162,20 @@ module _ (g : Guards) (a n : ℕ) (k s : Knowledge) where
   abbrev levels-left : List Guard
   levels-left = levelGuards a g ++ phases-left
 
-  pub all-passed : (t u v : Knowledge) → t ≡ passed (keypadGuards (g .keypad)) k → u ≡ passed (levelGuards a g) t → v ≡ passed (phaseGuards (g .phases)) u
-      → s ≡ passed (alarmGuards (g .alarms)) v → s ≡ passed (guardsAs a g) k
+  pub all-passed : (t u v : Knowledge) → t ≡ passIf (g .keypad) keypadGuard k → u ≡ passed (levelGuards a g) t → v ≡ passed (phaseGuards (g .phases)) u
+      → s ≡ passIf (g .alarms) alarmGuard v → s ≡ passed (guardsAs a g) k
   all-passed t u v e f i h =
-      h ∙ (ap (passed (alarmGuards (g .alarms))) i ∙ (sym (append-passed (phaseGuards (g .phases)) (alarmGuards (g .alarms)) u)
+      h ∙ (passed-if (g .alarms) alarmGuard v ∙ (ap (passed (alarmGuards (g .alarms))) i ∙ (sym (append-passed (phaseGuards (g .phases)) (alarmGuards (g .alarms)) u)
       ∙ (ap (passed phases-left) f ∙ (sym (append-passed (levelGuards a g) phases-left t)
-      ∙ (ap (passed levels-left) e ∙ sym (append-passed (keypadGuards (g .keypad)) levels-left k))))))
+      ∙ (ap (passed levels-left) (e ∙ passed-if (g .keypad) keypadGuard k) ∙ sym (append-passed (keypadGuards (g .keypad)) levels-left k)))))))
 
   pub keypad-met : g .keypad ≡ true → eqb n 2 ≡ true → s ≡ restricted (position keypad) (alone keypad on) k → s ≡ refusedBy n (guardsAs a g) k
   unfolding refusedBy maskFrom
   keypad-met h q e = simp (h, q) e
 
-  pub keypad-unmet : (t : Knowledge) → Unmet (g .keypad) n 2 → t ≡ passed (keypadGuards (g .keypad)) k → s ≡ refusedBy n levels-left t
+  pub keypad-unmet : (t : Knowledge) → Unmet (g .keypad) n 2 → t ≡ passIf (g .keypad) keypadGuard k → s ≡ refusedBy n levels-left t
       → s ≡ refusedBy n (guardsAs a g) k
-  keypad-unmet t h f e = e ∙ (ap (refusedBy n levels-left) f ∙ sym (unmet (g .keypad) keypadGuard levels-left n k h))
+  keypad-unmet t h f e = e ∙ (ap (refusedBy n levels-left) (f ∙ passed-if (g .keypad) keypadGuard k) ∙ sym (unmet (g .keypad) keypadGuard levels-left n k h))
 
   pub level-unmet : (t : Knowledge) → Unmet (g .level) n 7 → t ≡ passed (levelGuards a g) k → s ≡ refusedBy n phases-left t
       → s ≡ refusedBy n levels-left k
@@ -184,6 +187,6 @@ module _ (b : Bool) (n : ℕ) (k s : Knowledge) where
   unfolding refusedBy
   alarms-met h q e = simp (h, q) e
 
-  pub alarms-unmet : (t : Knowledge) → Unmet b n 9 → t ≡ passed (alarmGuards b) k → s ≡ dead t → s ≡ refusedBy n (alarmGuards b) k
+  pub alarms-unmet : (t : Knowledge) → Unmet b n 9 → t ≡ passIf b alarmGuard k → s ≡ dead t → s ≡ refusedBy n (alarmGuards b) k
   unfolding refusedBy
-  alarms-unmet t h f e = e ∙ (ap dead f ∙ (sym (unmet b alarmGuard [] n k h) ∙ ap (λ (gs : List Guard). refusedBy n gs k) (append-nil (alarmGuards b))))
+  alarms-unmet t h f e = e ∙ (ap dead (f ∙ passed-if b alarmGuard k) ∙ (sym (unmet b alarmGuard [] n k h) ∙ ap (λ (gs : List Guard). refusedBy n gs k) (append-nil (alarmGuards b))))

@@ -33,9 +33,11 @@ use text::Digits;
 ghost use mathlib.Core.Path.{_≡_};
 ghost use mathlib.Core.List.{_++_};
 ghost use Prim.Native.Nat.{_≤_};
+ghost use Rattle.base.specs.Test.{pick};
 ghost use Rattle.state.specs.Field.{phase};
 ghost use Rattle.knowledge.specs.Sets.{any};
-ghost use Rattle.command.specs.Request.{keypadGuards, levelGuards, phaseGuards, alarmGuards, guardsAs, changesOf, writingAs, requestAs};
+ghost use Rattle.knowledge.specs.Knowledge.{restricted};
+ghost use Rattle.command.specs.Request.{levelGuards, phaseGuards, alarmGuards, guardsAs, changesOf, writingAs, requestAs};
 ghost use Rattle.learning.specs.Learn.{letThrough, allowedLevels, passed, refusedBy, moved, afterRefusal, afterAcceptance, learnOf};
 
 // ---- the refusals that look at the record
@@ -68,12 +70,12 @@ fn needed(phases: Phases) -> u32
     }
 }
 
-// All of them are passed.
-fn pass_keypad(k: Knowledge, tested: bool) -> Knowledge
-    ensures { λ r. ⌜ r ≡ passed (keypadGuards tested) k ⌝ }
+// One of them, if it is tested, is passed by the numbers of a set.
+fn pass_if(k: Knowledge, tested: bool, at: usize, set: u32) -> Knowledge
+    ensures { λ r. ⌜ r ≡ pick tested (restricted at set k) k ⌝ }
 {
     if tested {
-        return k.restrict(KEYPAD, OFF);
+        return k.restrict(at, set);
     }
     k
 }
@@ -98,22 +100,14 @@ fn pass_phase(k: Knowledge, phases: Phases) -> Knowledge
     k.restrict(PHASE, set)
 }
 
-fn pass_alarms(k: Knowledge, tested: bool) -> Knowledge
-    ensures { λ r. ⌜ r ≡ passed (alarmGuards tested) k ⌝ }
-{
-    if tested {
-        return k.restrict(ALARMS, NO_ALARM);
-    }
-    k
-}
-
+// All of them.
 fn pass(k: Knowledge, access: u8, guards: Guards) -> Knowledge
     ensures { λ r. ⌜ r ≡ passed (guardsAs access guards) k ⌝ }
 {
     let phases = guards.phases;
-    let off = pass_keypad(k, guards.keypad);
+    let off = pass_if(k, guards.keypad, KEYPAD, OFF);
     let open = pass_level(off, access, guards);
-    pass_alarms(pass_phase(open, phases), guards.alarms)
+    pass_if(pass_phase(open, phases), guards.alarms, ALARMS, NO_ALARM)
 }
 
 // The one that is numbered n is the first that applies: of NO09; of NO05 and NO09; of NO07, NO05 and NO09; of all.
@@ -123,7 +117,7 @@ fn refused_by_alarms(k: Knowledge, tested: bool, n: u32) -> Knowledge
     if tested && n == 9 {
         return k.restrict(ALARMS, SOME_ALARM);
     }
-    pass_alarms(k, tested).refuted()
+    pass_if(k, tested, ALARMS, NO_ALARM).refuted()
 }
 
 fn refused_by_phase(k: Knowledge, phases: Phases, alarms: bool, n: u32) -> Knowledge
@@ -156,7 +150,7 @@ fn refused_by(k: Knowledge, access: u8, guards: Guards, n: u32) -> Knowledge
     if guards.keypad && n == 2 {
         return k.restrict(KEYPAD, ON);
     }
-    refused_by_level(pass_keypad(k, guards.keypad), access, guards, n)
+    refused_by_level(pass_if(k, guards.keypad, KEYPAD, OFF), access, guards, n)
 }
 
 // ---- what an accepted request changes

@@ -2,7 +2,7 @@
 -- takes it off; after an alarm in EQ and an accepted AR any of the lasting may be on, or none; and what an answer to SA tells of the alarms.
 -- AR leaves a record whose alarms last as it was. Where a record fits, it is the bench record with another address, access and alarms, and
 -- the laws of every call tell its replies. Assumes nothing.
-use Prim.Native.Nat.{ℕ, zero, suc, _+_, _≤_, _<_}
+use Prim.Native.Nat.{ℕ, _+_, _≤_, _<_}
 use mathlib.Core.Bool.{Bool, true, false, not}
 use mathlib.Core.Path.{_≡_, refl, sym, ap, subst, _∙_}
 use mathlib.Core.List.{List, [], _∷_, _++_, map}
@@ -38,11 +38,7 @@ use Rattle.controller.proofs.Exactly.{one-row, no-exactly}
 use Rattle.recording.specs.Form.{Exchange}
 use Rattle.recording.specs.Replay.{refuted, AllAgree}
 use Rattle.recording.specs.Statement.{Agrees, next, Start, Fits}
-use Rattle.recording.proofs.Bites.{_gets_, heard-frame, status-at, answered, accepted-so, Only, only}
-
--- asked q at address a, the reply was b
-abbrev pub asks : ℕ → List ℕ → List ℕ → Exchange
-asks a q b = frameOf Minicomputer (digits 2 a ++ q) gets frameOf Minicomputer (digits 2 a ++ b)
+use Rattle.recording.proofs.Bites.{_gets_, asks, shown-at, heard-frame, status-at, answered, accepted-so, Only, only}
 
 -- ---- an alarm in EQ after an accepted AR is a lasting one and no further AR takes it off
 
@@ -101,16 +97,6 @@ left a c s replies e h =
       status-agrees = g .1 .0;
       agrees = after-resets after a replies e last (subst (λ (x : Record). AllAgree next Agrees x (resets a replies ++ (e ∷ []))) same (g .1 .1));
     }
-
--- a byte of what is shown, behind the first byte and the address digits
-pub shown-at : (a i : ℕ) (s : List ℕ) → 0 < getD s i 0 → getD (frameOf Minicomputer (digits 2 a ++ s)) (suc (suc (suc i))) 0 ≡ getD s i 0
-unfolding frameOf digits
-shown-at a i s h = go _ s i h
-  where
-    go : (rest s : List ℕ) (i : ℕ) → 0 < getD s i 0 → getD (s ++ rest) i 0 ≡ getD s i 0
-    go rest [] i h = absurd (omega arith)
-    go rest (b ∷ s) zero h = refl
-    go rest (b ∷ s) (suc i) h = go rest s i h
 
 -- EQ's third character
 third-shown : (a x : ℕ) (s : List ℕ) → getD s 2 0 ≡ x → 0 < x → getD (frameOf Minicomputer (digits 2 a ++ s)) 5 0 ≡ x

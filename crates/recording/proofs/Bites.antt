@@ -1,6 +1,6 @@
 -- What the statement of demand 3 allows and what it excludes, on small recordings that a statement without one of its clauses judges
 -- otherwise. Where a record fits, it is named and the calls are computed; where none fits, the laws of every call tell it. Assumes nothing.
-use Prim.Native.Nat.{ℕ, _≤_}
+use Prim.Native.Nat.{ℕ, zero, suc, _≤_, _<_}
 use mathlib.Core.Bool.{Bool, true, false, _||_}
 use mathlib.Core.Path.{_≡_, refl, sym, ap, subst, _∙_}
 use mathlib.Core.List.{List, [], _∷_, _++_}
@@ -35,6 +35,20 @@ use Rattle.recording.proofs.Consequences.{prefix, one-answer, one-judge
 infix 70 _gets_
 abbrev pub _gets_ : List ℕ → List ℕ → Exchange
 q gets a = record { request = q; reply = a }
+
+-- asked q at address a, the reply was b
+abbrev pub asks : ℕ → List ℕ → List ℕ → Exchange
+asks a q b = frameOf Minicomputer (digits 2 a ++ q) gets frameOf Minicomputer (digits 2 a ++ b)
+
+-- a byte of what is shown, behind the first byte and the address digits
+pub shown-at : (a i : ℕ) (s : List ℕ) → 0 < getD s i 0 → getD (frameOf Minicomputer (digits 2 a ++ s)) (suc (suc (suc i))) 0 ≡ getD s i 0
+unfolding frameOf digits
+shown-at a i s h = go _ s i h
+  where
+    go : (rest s : List ℕ) (i : ℕ) → 0 < getD s i 0 → getD (s ++ rest) i 0 ≡ getD s i 0
+    go rest [] i h = absurd (omega arith)
+    go rest (b ∷ s) zero h = refl
+    go rest (b ∷ s) (suc i) h = go rest s i h
 
 -- ---- recordings that some record fits
 

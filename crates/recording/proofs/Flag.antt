@@ -18,8 +18,7 @@ use Rattle.controller.specs.Call.{Outcome}
 use Rattle.controller.proofs.Theorems.{call-keeps-valid, address-kept, flag-stays}
 use Rattle.recording.specs.Form.{Exchange}
 use Rattle.recording.specs.Statement.{Agrees, next, Fits}
-use Rattle.recording.proofs.Bites.{_gets_, heard-frame, status-at}
-use Rattle.recording.proofs.Alarms.{asks, shown-at}
+use Rattle.recording.proofs.Bites.{_gets_, asks, shown-at, heard-frame, status-at}
 
 -- EQ's fourth character
 fourth-shown : (r : Record) (a : ℕ) (s : List ℕ) → valid r ≡ true → get address r ≡ a → 0 < getD s 3 0 → Agrees r (asks a (text "EQ") s) → 0x30 + weightIn r fourth ≡ getD s 3 0

@@ -5,11 +5,12 @@ use mathlib.Core.Bool.{Bool, true, false, not, _&&_, _||_}
 use mathlib.Core.Path.{_≡_, refl, sym, ap, ap₂, subst, _∙_}
 use mathlib.Core.List.{map}
 use native.Mathlib.Omega.{arith}
-use lib.Bits.{bitAnd, bitOr, and-step, and-zero-l, and-shr, or-shr, and-mod, or-mod, and-le-l, and-le-r, or-lt}
+use lib.Bits.{bitAnd, bitOr, and-step, and-zero-l, and-shr, or-shr, and-le-l, and-le-r, or-lt}
 use lib.Dec.{eqb, leb}
 use borrow.Author.Tests.{leb-true, not-true, not-false}
 use Rattle.base.specs.Test.{pick, member}
 use Rattle.text.specs.Word.{equal}
+use Rattle.base.proofs.Bits.{low-and, low-or}
 use Rattle.base.proofs.Tests.{same, same-as, between-yes, between-low, between-high, allBelow, holds-below}
 use Rattle.state.specs.Alarm.{alarmCount, numberFrom, alarmNumber, resettable, weightOf, weights, noAlarm, allAlarms, alarmOn, isAlarm, raised, cleared, lastingAlarms, lasting}
 use Rattle.state.specs.Field.{alarms, fieldRange}
@@ -93,27 +94,12 @@ cleared-within k n h =
     between-yes noAlarm allAlarms (cleared k n) (omega arith) (omega arith)
 
 -- ---- one alarm at a time
-bit-of : (x y : ℕ) → x < 2 → y < 2 → (eqb (bitOr x y) 1 ≡ (eqb x 1 || eqb y 1)) × (eqb (bitAnd x y) 1 ≡ (eqb x 1 && eqb y 1))
-bit-of zero zero h k = (refl, refl)
-bit-of zero (suc zero) h k = (refl, refl)
-bit-of zero (suc (suc y)) h k = absurd (omega arith)
-bit-of (suc zero) zero h k = (refl, refl)
-bit-of (suc zero) (suc zero) h k = (refl, refl)
-bit-of (suc zero) (suc (suc y)) h k = absurd (omega arith)
-bit-of (suc (suc x)) y h k = absurd (omega arith)
-
 module _ (k a b : ℕ) where
   on-or : alarmOn k (bitOr a b) ≡ (alarmOn k a || alarmOn k b)
-  on-or =
-      ap (λ (m : ℕ). eqb (m % 2) 1) (or-shr a b (alarmCount - k))
-      ∙ (ap (λ (m : ℕ). eqb m 1) (or-mod (a / weightOf k) (b / weightOf k) 1)
-      ∙ bit-of (a / weightOf k % 2) (b / weightOf k % 2) (omega arith) (omega arith) .0)
+  on-or = ap (λ (m : ℕ). eqb (m % 2) 1) (or-shr a b (alarmCount - k)) ∙ low-or (a / weightOf k) (b / weightOf k)
 
   on-and : alarmOn k (bitAnd a b) ≡ (alarmOn k a && alarmOn k b)
-  on-and =
-      ap (λ (m : ℕ). eqb (m % 2) 1) (and-shr a b (alarmCount - k))
-      ∙ (ap (λ (m : ℕ). eqb m 1) (and-mod (a / weightOf k) (b / weightOf k) 1)
-      ∙ bit-of (a / weightOf k % 2) (b / weightOf k % 2) (omega arith) (omega arith) .1)
+  on-and = ap (λ (m : ℕ). eqb (m % 2) 1) (and-shr a b (alarmCount - k)) ∙ low-and (a / weightOf k) (b / weightOf k)
 
 -- tests of two alarms' numbers, computed over all of them
 abbrev eachPair : (ℕ → ℕ → Bool) → Bool

@@ -7,7 +7,7 @@ use native.Mathlib.Omega.{arith}
 use lib.Dec.{eqb, leb, ltb}
 use lib.ListN.{length, getD, set, length-set, List·getD-map, List·getD-eq-default}
 use lib.Seq.{getD-set-same, getD-set-other}
-use borrow.Author.Tests.{eq-eqb, ne-eqb, eqb-true, le-leb, leb-true, le-ltb, ltb-true}
+use borrow.Author.Tests.{eq-eqb, ne-eqb, eqb-true, eqb-false, le-leb, leb-true, le-ltb, ltb-true}
 use Rattle.state.specs.declared.Phase.{Phase}
 use Rattle.state.specs.declared.Phase.the-variants.{Idle, Set, Running, Stopped, Done}
 use Rattle.state.specs.declared.Record.{Record}
@@ -73,6 +73,11 @@ scalar-at n h = eqb-true _ _ (holds-below (λ (j : ℕ). eqb (position (getD sca
 
 pub same-field : (f g : Field) → position f ≡ position g → f ≡ g
 same-field f g e = sym (decode-position f) ∙ (ap decode e ∙ decode-position g)
+
+-- what holds of a field and of each other one holds of any
+pub at-field : (f : Field) (P : Field → Type 0) → P f → ((g : Field) → (position f ≡ position g → ⊥) → P g) → (g : Field) → P g
+at-field f P own other g =
+    by-test (eqb (position f) (position g)) (λ e. subst P (same-field f g (eqb-true _ _ e)) own) (λ e. other g (eqb-false _ _ e))
 
 -- what holds of all but the parameters' fields, of each value and of each level holds of each field: so no law below has a case per field
 pub by-fields : (P : Field → Type 0) → ((n : ℕ) → n < scalarCount → P (getD scalarFields n address)) → ((i : ℕ) → P (value i)) → ((i : ℕ) → P (level i))

@@ -2,23 +2,23 @@
 -- AR and PC keep it valid. Assumes nothing.
 use Prim.Native.Nat.{ℕ, zero, suc, _+_, _%_, _≤_, _<_}
 use mathlib.Core.Bool.{Bool, true, false, _&&_, _||_}
-use mathlib.Core.Path.{_≡_, refl, sym, ap, _∙_}
+use mathlib.Core.Path.{_≡_, refl, ap, _∙_}
 use native.Mathlib.Omega.{arith}
 use native.Mathlib.Numerals.{add-one}
 use lib.Dec.{eqb, leb, ltb}
 use lib.ListN.{length, getD}
-use borrow.Author.Tests.{eqb-true, eqb-false, eq-eqb, ltb-true}
+use borrow.Author.Tests.{eq-eqb, ltb-true}
 use Rattle.state.specs.declared.Event.{Event}
 use Rattle.state.specs.declared.Event.the-variants.{Pulses, Still, KeypadOn, KeypadOff, PowerBack, AlarmOn, AlarmOff}
 use Rattle.state.specs.declared.Record.{Record}
 use Rattle.base.specs.Test.{pick}
 use Rattle.state.specs.Parameter.{parameterCount}
 use Rattle.state.specs.Alarm.{isAlarm, raised, cleared, lasting}
-use Rattle.state.specs.Field.{Field, address, phase, keypad, flow, reset, powerfail, preset, raw, number, alarms, value, level, get, put, position, fieldRange, scalarFields, fieldsFor, parameterFields, on, off}
+use Rattle.state.specs.Field.{Field, address, phase, keypad, flow, reset, powerfail, preset, raw, number, alarms, value, level, get, put, fieldRange, scalarFields, fieldsFor, parameterFields, on, off}
 use Rattle.state.specs.Valid.{within, allIn, fullLength, valid}
 use Rattle.state.specs.Event.{set, running, stopped, done, idle, inPhase, pulses, finished, powerBack, keypadOn, alarmChanged, happened, after, nextNumber, batchSet, started, halted, ended, alarmsReset, flagAfter, replaced}
 use Rattle.base.proofs.Tests.{by-test, and-yes, and-left, and-right, between-yes}
-use Rattle.state.proofs.Fields.{Held, by-fields, scalar-at, same-field, get-put-same, get-put-other, put-values-length, put-levels-length}
+use Rattle.state.proofs.Fields.{Held, by-fields, scalar-at, at-field, get-put-same, get-put-other, put-values-length, put-levels-length}
 use Rattle.state.proofs.Alarms.{raised-within, cleared-within, lasting-within}
 use Rattle.state.proofs.Validity.{all-at, all-from, pairIn, pairs-more, fields-split, valid-tell}
 
@@ -53,18 +53,17 @@ module _ (r : Record) where
 
 -- ---- a write within the field's range
 module _ (r : Record) (v : valid r ≡ true) where
+  pub get-put-own : (f : Field) (n : ℕ) → Held f → within (fieldRange f) n ≡ true → get f (put f n r) ≡ n
+  get-put-own f n l h = let t = valid-tell r v in get-put-same r (t .values-length) (t .levels-length) f n l h
+
   pub put-kept : (f : Field) (n : ℕ) → within (fieldRange f) n ≡ true → valid (put f n r) ≡ true
   put-kept f n h =
       let t = valid-tell r v in
-      fields-in (put f n r) (λ g l. go g l (eqb (position f) (position g)) refl) (put-values-length f n r ∙ t .values-length) (put-levels-length f n r ∙ t .levels-length)
-    where
-      go : (g : Field) → Held g → (b : Bool) → eqb (position f) (position g) ≡ b → within (fieldRange g) (get g (put f n r)) ≡ true
-      go g l true e =
-          let t = valid-tell r v in
-          let q : f ≡ g = same-field f g (eqb-true _ _ e) in
-          let k : get g (put g n r) ≡ n = get-put-same r (t .values-length) (t .levels-length) g n l (ap (λ (x : Field). within (fieldRange x) n) (sym q) ∙ h) in
-          ap (λ (x : Field). within (fieldRange g) (get g (put x n r))) q ∙ (ap (within (fieldRange g)) k ∙ (ap (λ (x : Field). within (fieldRange x) n) (sym q) ∙ h))
-      go g l false e = ap (within (fieldRange g)) (get-put-other f g n r (eqb-false _ _ e)) ∙ field-in r v g l
+      fields-in (put f n r)
+      (at-field f (λ g. Held g → within (fieldRange g) (get g (put f n r)) ≡ true)
+      (λ l. ap (within (fieldRange f)) (get-put-own f n l h) ∙ h)
+      (λ g other l. ap (within (fieldRange g)) (get-put-other f g n r other) ∙ field-in r v g l))
+      (put-values-length f n r ∙ t .values-length) (put-levels-length f n r ∙ t .levels-length)
 
 -- ---- the panel and the phase changes
 pub next-within : (n : ℕ) → within (fieldRange number) (nextNumber n) ≡ true

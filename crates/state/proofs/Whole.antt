@@ -2,25 +2,25 @@
 -- equal; so a value that is set to the one held changes nothing. Assumes nothing.
 use Prim.Native.Nat.{ℕ, zero, suc, _+_, _<_}
 use mathlib.Core.Bool.{Bool, true, false}
-use mathlib.Core.Path.{_≡_, refl, sym, ap, subst, _∙_}
+use mathlib.Core.Path.{_≡_, refl, sym, ap, _∙_}
 use mathlib.Core.List.{List, [], _∷_, _++_, map}
 use mathlib.Core.Logic.{⊎-elim}
 use native.Mathlib.Nat.{eq-or-lt-of-le}
 use native.Mathlib.Omega.{arith}
-use lib.Dec.{eqb, ltb}
+use lib.Dec.{ltb}
 use lib.ListN.{length, getD, length-append, List·getD-append}
 use lib.Seq.{getD-append-add, ext-getD}
-use borrow.Author.Tests.{eqb-true, eqb-false, eq-eqb, ne-eqb, lt-ltb, ltb-true}
+use borrow.Author.Tests.{eq-eqb, ne-eqb, lt-ltb, ltb-true}
 use Rattle.base.specs.Test.{pick}
-use Rattle.base.proofs.Tests.{by-test, between-yes, holds-below}
+use Rattle.base.proofs.Tests.{between-yes, holds-below}
 use Rattle.state.specs.declared.Record.{Record}
 use Rattle.state.specs.Parameter.{parameterCount, rangeAt}
 use Rattle.state.specs.Field.{Field, address, value, level, get, put, fieldRange, position, scalarFields, listed, recordFrom, on}
 use Rattle.state.specs.Valid.{within, valid}
 use Rattle.state.specs.Event.{flagAfter, replaced}
-use Rattle.state.proofs.Fields.{Held, by-fields, by-list, same-field, settled, settling, phase-back, flag-back, get-put-same, get-put-other}
+use Rattle.state.proofs.Fields.{Held, by-fields, by-list, at-field, settled, settling, phase-back, flag-back, get-put-other}
 use Rattle.state.proofs.Validity.{valid-tell}
-use Rattle.state.proofs.Kept.{field-in, fields-in, put-kept}
+use Rattle.state.proofs.Kept.{field-in, fields-in, get-put-own, put-kept}
 
 -- ---- a record of given numbers
 pub listed-length : (w : ℕ → ℕ) (n : ℕ) → length (listed w n) ≡ n
@@ -97,14 +97,10 @@ same-fields r s v w same = sym (whole r v) ∙ (ap recordFrom (λ i f. equal f i
 -- a record that differs from a valid one in one field at most is that one when the field gets its number
 pub put-over : (r s : Record) (f : Field) → valid r ≡ true → valid s ≡ true → Held f → ((g : Field) → (position f ≡ position g → ⊥) → get g s ≡ get g r) → (n : ℕ) → n ≡ get f r → put f n s ≡ r
 put-over r s f v w held others n e =
-    let t = valid-tell s w in
     let inside : within (fieldRange f) n ≡ true = ap (within (fieldRange f)) e ∙ field-in r v f held in
-    same-fields (put f n s) r (put-kept s w f n inside) v (λ g h.
-    by-test (eqb (position f) (position g))
-    (λ q.
-    subst (λ (x : Field). get x (put f n s) ≡ get x r) (same-field f g (eqb-true _ _ q))
-    (get-put-same s (t .values-length) (t .levels-length) f n held inside ∙ e))
-    (λ q. let other = eqb-false _ _ q in get-put-other f g n s other ∙ others g other))
+    same-fields (put f n s) r (put-kept s w f n inside) v
+    (at-field f (λ g. Held g → get g (put f n s) ≡ get g r) (λ h. get-put-own s w f n held inside ∙ e)
+    (λ g other h. get-put-other f g n s other ∙ others g other))
 
 -- its own
 pub put-own : (r : Record) (f : Field) → valid r ≡ true → Held f → (n : ℕ) → n ≡ get f r → put f n r ≡ r

@@ -8,15 +8,14 @@ use native.Mathlib.Nat.{pow-suc}
 use native.Mathlib.Omega.{arith}
 use lib.Dec.{eqb, ltb}
 use lib.ListN.{length}
-use borrow.Author.Tests.{eq-eqb, eqb-true, eqb-false, ltb-true, lt-ltb, not-true}
-use Rattle.base.proofs.Tests.{and-yes, and-left, and-right, between-yes, between-high, holds-below, by-test}
+use borrow.Author.Tests.{eq-eqb, ne-eqb, eqb-true, eqb-false, ltb-true, lt-ltb, not-true}
+use Rattle.base.proofs.Tests.{and-yes, and-left, and-right, between-yes, between-high, holds-below}
 use Rattle.state.specs.declared.Record.{Record}
 use Rattle.state.specs.Parameter.{parameterCount}
 use Rattle.state.specs.Field.{Field, alarms, value, position, get, put, fieldRange, off, on}
 use Rattle.state.specs.Valid.{within, valid}
-use Rattle.state.proofs.Fields.{Held, same-field, get-put-same, get-put-other}
-use Rattle.state.proofs.Kept.{field-in, put-kept}
-use Rattle.state.proofs.Validity.{valid-tell}
+use Rattle.state.proofs.Fields.{Held, at-field, get-put-other}
+use Rattle.state.proofs.Kept.{field-in, get-put-own, put-kept}
 use Rattle.state.proofs.Whole.{same-fields, from-valid, low-within}
 use Rattle.stored.specs.Layout.{Item, alone, together, bitMapped, current, items, alarmsStored, alarmsIn, fits, bits, itemNumber, numbersOf, putBits, putItem, putAll}
 use Rattle.stored.specs.Form.{allFit, lowRecord}
@@ -114,15 +113,11 @@ alarms-held = omega arith
 
 -- ---- a number put into a field
 module _ (s : Record) (v : valid s ≡ true) (f : Field) (l : Held f) (n : ℕ) (w : within (fieldRange f) n ≡ true) where
-  own : get f (put f n s) ≡ n
-  own = let t = valid-tell s v in get-put-same s (t .values-length) (t .levels-length) f n l w
-
   -- where the number is another record's, and the rest agrees with it, so does all
   agrees : (g : Field) (m : ℕ) → (f ≡ g → n ≡ m) → (eqb (position f) (position g) ≡ false → get g s ≡ m) → get g (put f n s) ≡ m
-  agrees g m same other =
-      by-test (eqb (position f) (position g))
-      (λ e. let q = same-field f g (eqb-true _ _ e) in ap (λ (h : Field). get h (put f n s)) (sym q) ∙ (own ∙ same q))
-      (λ e. get-put-other f g n s (eqb-false _ _ e) ∙ other e)
+  agrees =
+      at-field f (λ g. (m : ℕ) → (f ≡ g → n ≡ m) → (eqb (position f) (position g) ≡ false → get g s ≡ m) → get g (put f n s) ≡ m) (λ m same rest. get-put-own s v f n l w ∙ same refl)
+      (λ g other m same rest. get-put-other f g n s other ∙ rest (ne-eqb _ _ other))
 
 -- ---- several flags
 bits-high : (r : Record) → valid r ≡ true → (fs : List Field) → flags fs ≡ true → bits r fs < 2 ^ length fs
@@ -165,7 +160,7 @@ bits-back (f ∷ fs) n s h v l =
     let u : Record = putBits fs (n / 2) s in
     let i : bits u fs ≡ n / 2 = bits-back fs (n / 2) s (t .rest) v (omega arith) in
     let o : get f (put f (n % 2) u) ≡ n % 2 =
-    own u (bits-valid fs (n / 2) s (t .rest) v) f (t .is-held) (n % 2) (flag-within f (n % 2) (t .is-flag) (omega arith)) in
+    get-put-own u (bits-valid fs (n / 2) s (t .rest) v) f (n % 2) (t .is-held) (flag-within f (n % 2) (t .is-flag) (omega arith)) in
     let e : bits (put f (n % 2) u) fs ≡ bits u fs = bits-same fs (put f (n % 2) u) u (λ g m. get-put-other f g (n % 2) u (apart-from g m (t .once))) in
     omega arith
   where
@@ -248,13 +243,13 @@ item-back : (x : Item) (xs : List Item) (n : ℕ) (ns : List ℕ) (s : Record) �
     → itemNumber (putAll xs ns (putItem x n s)) x ≡ n
 item-back (alone w f) xs n ns s h i v =
     all-other xs ns (put f n s) f (not-true _ (and-right (held f) (not (namesIn xs (position f))) h)) ∙
-    own s v f (held-is f (and-left (held f) (not (namesIn xs (position f))) h)) n i
+    get-put-own s v f n (held-is f (and-left (held f) (not (namesIn xs (position f))) h)) i
 item-back (together fs) xs n ns s h i v =
     let k = and-left (flags fs) (apart fs xs) h in
     bits-same fs (putAll xs ns (putBits fs n s)) (putBits fs n s) (λ g m. all-other xs ns (putBits fs n s) g (apart-tells fs xs (and-right (flags fs) (apart fs xs) h) g m)) ∙
     bits-back fs n s k v (ltb-true n (2 ^ length fs) i)
 item-back bitMapped xs n ns s h i v =
-    ap alarmsStored (all-other xs ns (put alarms (alarmsIn n) s) alarms (not-true _ h) ∙ own s v alarms alarms-held (alarmsIn n) (alarms-within n i)) ∙ stored-back n i
+    ap alarmsStored (all-other xs ns (put alarms (alarmsIn n) s) alarms (not-true _ h) ∙ get-put-own s v alarms (alarmsIn n) alarms-held (alarms-within n i)) ∙ stored-back n i
 
 pub all-back : (xs : List Item) (ns : List ℕ) (s : Record) → sound xs ≡ true → length ns ≡ length xs → allFit xs ns ≡ true → valid s ≡ true
     → numbersOf xs (putAll xs ns s) ≡ ns

@@ -7,7 +7,8 @@ use Rattle.learning.proofs.refused_by.Statement.{statement}
 use Rattle.learning.proofs.refused_by.Tie as tie
 
 returns-2 : tie.Need-returns-2
-returns-2 c = keypad-unmet (c .before .before .before .args .guards) _ _ _ _ _ (⊎-elim (λ x. inl (x .0 .taken, x .1 .left)) (λ x. inr (x .left)) (c .before .before .if1 .came)) (c .before .pass-keypad .ensures) (c .refused-by-level .ensures)
+unfolding maskFrom
+returns-2 c = keypad-unmet (c .before .before .before .args .guards) _ _ _ _ _ (⊎-elim (λ x. inl (x .0 .taken, x .1 .left)) (λ x. inr (x .left)) (c .before .before .if1 .came)) (c .before .pass-if .ensures) (c .refused-by-level .ensures)
 
 pub refused-by-spec : {M : Type 1} → statement M
 unfolding maskFrom
