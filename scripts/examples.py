@@ -207,6 +207,44 @@ FLAG_ALWAYS_LIT = MORNING_BEFORE_THE_FLAG + [
     ("RS", "RS "),
 ]
 
+# Tens for the recipe and units for the kind: share, factor and low flow of recipe 3.
+THREE_KINDS = [
+    ("PV 031", "PV 031 00002500"),
+    ("PV 032", "PV 032 00010150"),
+    ("PV 033", "PV 033 00000120"),
+]
+
+SERVICE_WALK = THREE_KINDS + [
+    # The codes on either side are not in the list.
+    ("PV 030", "NO04"),
+    ("PV 034", "NO04"),
+    # Nor is there a recipe 0 or 9, and hundreds do not go with a recipe.
+    ("PV 001", "NO04"),
+    ("PV 091", "NO04"),
+    ("PV 131", "NO04"),
+    # The digits the other way round are recipe 1's low flow.
+    ("PV 013", "PV 013 00000080"),
+    # Each kind has its own range, and what is not in the list has none.
+    ("PC 031 10001", "NO06"),
+    ("PC 032 7999", "NO06"),
+    ("PC 033 0", "NO06"),
+    ("PC 034 0", "NO04"),
+    # Nor has it a level.
+    ("XV 033", "XV 033 1"),
+    ("XV 034", "NO04"),
+    ("XC 034 1", "NO04"),
+    # An end of the range is accepted, and lands in no other recipe.
+    ("PC 033 9999", "OK"),
+    ("PV 033", "PV 033 00009999"),
+    ("PV 013", "PV 013 00000080"),
+]
+
+# Behind recipe 3's three parameters this controller shows what it keeps next, recipe 4's share.
+FOURTH_KIND = THREE_KINDS + [
+    ("PV 034", "PV 034 00007500"),
+    ("PV 041", "PV 041 00007500"),
+]
+
 # On the way to the controller a digit became another; the check character is still that of 10150.
 DISTURBED_WRITE = framed(1, "PC 032 10150").replace(b"10150", b"10950")
 
@@ -629,6 +667,7 @@ def every_recording():
         "check_character_02": recording(1, 2, CHECK_CHARACTER_02),
         "cut_by_the_recorder": cut_by_the_recorder(),
         "flag_always_lit": recording(1, 2, FLAG_ALWAYS_LIT),
+        "fourth_kind": recording(1, 2, FOURTH_KIND),
         "honest_day": recording(7, 2, HONEST_DAY),
         "keypad_then_phase": recording(1, 2, KEYPAD_THEN_PHASE),
         "lasting_alarm_forgotten": recording(1, 2, LASTING_ALARM_FORGOTTEN),
@@ -640,6 +679,7 @@ def every_recording():
         "no_exchange": recording(1, 2, []),
         "no_phase_left": recording(1, 2, NO_PHASE_LEFT),
         "running_with_keypad_on": recording(1, 2, RUNNING_WITH_KEYPAD_ON),
+        "service_walk": recording(1, 2, SERVICE_WALK),
         "started_with_alarm": recording(1, 2, STARTED_WITH_ALARM),
         "version_2": recording(1, 2, BENCH_OTHER_RECIPE, version=2),
         "wrong_frame_answered": recording(1, 2, WRONG_FRAME_ANSWERED),

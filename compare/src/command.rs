@@ -1,9 +1,18 @@
 //! Commands: their forms, and the refusals that hold whatever the record.
 
 use crate::fault::Fault;
-use crate::record::{parameter_place, value_in_range, HIGHEST_LEVEL, RECIPES};
+use crate::parameters::{parameter_place, value_in_range, Name, LIST};
+use crate::record::{HIGHEST_LEVEL, RECIPES};
 
-/// A request of the right form whose arguments are in range. Parameters are places in the list.
+/// A listed parameter that a request names.
+#[derive(Clone, Copy, PartialEq, Eq, Debug)]
+pub struct Named {
+    /// As asked for; the reply repeats it.
+    pub code: u32,
+    pub place: usize,
+}
+
+/// A request of the right form whose arguments are in range.
 #[derive(Clone, Copy, PartialEq, Eq, Debug)]
 pub enum Command {
     Status,
@@ -13,10 +22,10 @@ pub enum Command {
     Recipe,
     RecipeFactor,
     RawTotal,
-    Value(usize),
-    Level(usize),
-    WriteValue(usize, u32),
-    WriteLevel(usize, u8),
+    Value(Named),
+    Level(Named),
+    WriteValue(Named, u32),
+    WriteLevel(Named, u8),
     WriteRecipe(u8),
     SetBatch(u32),
     Start,
@@ -59,8 +68,34 @@ fn digits(part: &[u8], least: usize, most: usize) -> Result<u32, u8> {
         .fold(0, |number, digit| number * 10 + u32::from(digit - b'0')))
 }
 
-fn listed(code: u32) -> Result<usize, u8> {
-    parameter_place(code).ok_or(4)
+/// The code that this one is looked up as: itself, but for planted faults.
+fn looked_up(code: u32, fault: Fault) -> u32 {
+    match (fault, code) {
+        (Fault::UnitsTakenForRecipe, 0..=99) => code % 10 * 10 + code / 10,
+        // What stands behind the third kind is the first of the next recipe.
+        (Fault::FourthKindAccepted, 14..=74) if code % 10 == 4 => code + 7,
+        (Fault::RecipeZeroAccepted, 1..=3) => code + 10,
+        // What stands behind the last recipe is the system's.
+        (Fault::RecipeNineAccepted, 91..=93) => code + 710,
+        (Fault::HundredsIgnored, 100..=800 | 809..=999) => code % 100,
+        (Fault::PlaceInNextRecipe, 11..=73) => code + 10,
+        _ => code,
+    }
+}
+
+/// The parameter of this code, or NO04.
+fn named(code: u32, fault: Fault) -> Result<Named, u8> {
+    let place = parameter_place(looked_up(code, fault)).ok_or(4)?;
+    Ok(Named { code, place })
+}
+
+/// Whether PC may write this value.
+fn writable(place: usize, value: u32, fault: Fault) -> bool {
+    let place = match LIST[place].name {
+        Name::Share | Name::Factor if fault == Fault::RangeOfNextKind => place + 1,
+        _ => place,
+    };
+    value_in_range(place, value)
 }
 
 /// The command in what follows the address, or the number of the refusal NO00, 01, 08, 04, 30 or 06.
@@ -95,28 +130,34 @@ pub fn parse(code_and_arguments: &[u8], fault: Fault) -> Result<Command, u8> {
         (b"RC", None, None) => Ok(Command::RecipeFactor),
         (b"RT", Some(b"R"), None) => Ok(Command::RawTotal),
         (b"RT", Some(b"G" | b"N" | b"P" | b"M"), None) => unavailable,
-        (b"PV", Some(parameter), None) => Ok(Command::Value(listed(digits(parameter, 3, 3)?)?)),
-        (b"XV", Some(parameter), None) => Ok(Command::Level(listed(digits(parameter, 3, 3)?)?)),
+        (b"PV", Some(parameter), None) => {
+            let code = digits(parameter, 3, 3)?;
+            Ok(Command::Value(named(code, fault)?))
+        }
+        (b"XV", Some(parameter), None) => {
+            let code = digits(parameter, 3, 3)?;
+            Ok(Command::Level(named(code, fault)?))
+        }
         (b"PC", Some(parameter), Some(value)) => {
-            let parameter = digits(parameter, 3, 3)?;
+            let code = digits(parameter, 3, 3)?;
             let value = digits(value, 1, 8)?;
-            let place = listed(parameter)?;
-            if !value_in_range(place, value) {
+            let parameter = named(code, fault)?;
+            if !writable(parameter.place, value, fault) {
                 return Err(6);
             }
-            Ok(Command::WriteValue(place, value))
+            Ok(Command::WriteValue(parameter, value))
         }
         (b"XC", Some(parameter), Some(level)) => {
-            let parameter = digits(parameter, 3, 3)?;
+            let code = digits(parameter, 3, 3)?;
             let level = digits(level, 1, 1)? as u8;
             if fault == Fault::No06BeforeNo04 && level > HIGHEST_LEVEL {
                 return Err(6);
             }
-            let place = listed(parameter)?;
+            let parameter = named(code, fault)?;
             if level > HIGHEST_LEVEL {
                 return Err(6);
             }
-            Ok(Command::WriteLevel(place, level))
+            Ok(Command::WriteLevel(parameter, level))
         }
         (b"NR", Some(recipe), None) => {
             let recipe = digits(recipe, 2, 2)? as u8;

@@ -1,12 +1,11 @@
 //! One call of the controller, the record by value.
 
 use crate::alarms;
-use crate::command::{self, Command};
+use crate::command::{self, Command, Named};
 use crate::fault::Fault;
 use crate::frame::{self, Kind, LEAST_BUFFER};
-use crate::record::{
-    factor_place, is_factor, parameter_code, same_kind_place, Phase, Record, HIGHEST_NUMBER,
-};
+use crate::parameters::{factor_place, is_factor, same_kind_place};
+use crate::record::{Phase, Record, HIGHEST_NUMBER};
 
 /// What a call answers beside the record after it and the lent reply buffer.
 #[derive(Clone, Copy, PartialEq, Eq, Debug)]
@@ -104,8 +103,10 @@ fn needs_keypad_off(command: Command, fault: Fault) -> bool {
 
 fn level_passes(record: &Record, command: Command, fault: Fault) -> bool {
     match command {
-        Command::WriteValue(place, _) => record.parameters[place].level <= record.access,
-        Command::WriteLevel(place, level) => {
+        Command::WriteValue(Named { place, .. }, _) => {
+            record.parameters[place].level <= record.access
+        }
+        Command::WriteLevel(Named { place, .. }, level) => {
             record.parameters[place].level <= record.access
                 && (level <= record.access || fault == Fault::LevelAboveAccessWritten)
         }
@@ -261,15 +262,15 @@ pub fn answer(record: &Record, command: Command, fault: Fault) -> Result<ReplyTe
             text.word(b"RT R ");
             text.number(record.raw, 8);
         }
-        Command::Value(place) => {
+        Command::Value(Named { code, place }) => {
             text.word(b"PV ");
-            text.number(parameter_code(place), 3);
+            text.number(code, 3);
             text.word(b" ");
             text.number(record.parameters[place].value, 8);
         }
-        Command::Level(place) => {
+        Command::Level(Named { code, place }) => {
             text.word(b"XV ");
-            text.number(parameter_code(place), 3);
+            text.number(code, 3);
             text.word(b" ");
             text.number(u32::from(record.parameters[place].level), 1);
         }
@@ -290,7 +291,7 @@ fn held_value(record: &Record, place: usize, fault: Fault) -> u32 {
 /// The effect of a command that was accepted.
 pub fn record_after(mut record: Record, command: Command, fault: Fault) -> Record {
     match command {
-        Command::WriteValue(mut place, value) => {
+        Command::WriteValue(Named { mut place, .. }, value) => {
             if fault == Fault::WriteInOtherFactor && is_factor(place) {
                 place = (place + 3) % 24;
             }
@@ -303,7 +304,7 @@ pub fn record_after(mut record: Record, command: Command, fault: Fault) -> Recor
                 _ => record.changed || differs,
             };
         }
-        Command::WriteLevel(place, level) => record.parameters[place].level = level,
+        Command::WriteLevel(Named { place, .. }, level) => record.parameters[place].level = level,
         Command::WriteRecipe(recipe) => record.recipe = recipe,
         Command::SetBatch(preset) => {
             record.phase = Phase::Set;

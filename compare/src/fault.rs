@@ -47,6 +47,15 @@ faults! {
     TrailingSpaceAccepted "a space behind the last argument accepted",
     ZeroBatchByFirstForm "SB 000000 accepted",
 
+    // Parameter codes
+    UnitsTakenForRecipe "units taken for the recipe and tens for the kind",
+    FourthKindAccepted "a fourth kind of a recipe accepted",
+    RecipeZeroAccepted "001 to 003 accepted as those of a recipe 0",
+    RecipeNineAccepted "091 to 093 accepted as those of a recipe 9",
+    HundredsIgnored "a recipe's code with hundreds before it accepted",
+    RangeOfNextKind "a share or factor held to the range of the next kind",
+    PlaceInNextRecipe "a recipe's code at the place of the next recipe's",
+
     // Effects
     RecordChangedOnRefusal "record changed on a refusal",
     NumberNotWrapping "batch number 9999 not wrapping",

@@ -9,14 +9,14 @@
 //! only whether any is on, so each candidate keeps which may be on.
 
 use crate::alarms;
-use crate::command::Command;
+use crate::command::{Command, Named};
 use crate::controller::{self, Request};
 use crate::fault::Fault;
 use crate::frame::{self, Kind};
-use crate::record::{
-    another_value, factor_place, is_factor, value_in_range, Phase, Record, HIGHEST_LEVEL,
-    HIGHEST_NUMBER, HIGHEST_RAW, PARAMETERS, RECIPES, VALUE_RANGES,
+use crate::parameters::{
+    another_value, factor_place, is_factor, value_in_range, PARAMETERS, VALUE_RANGES,
 };
+use crate::record::{Phase, Record, HIGHEST_LEVEL, HIGHEST_NUMBER, HIGHEST_RAW, RECIPES};
 use crate::recording;
 
 #[derive(Clone, Copy, PartialEq, Eq, Debug)]
@@ -154,7 +154,7 @@ impl Candidate {
         match command {
             Command::RawTotal => Some(Wide::Raw),
             Command::BatchNumber => Some(Wide::Number),
-            Command::Value(place) => Some(Wide::Value(place)),
+            Command::Value(Named { place, .. }) => Some(Wide::Value(place)),
             Command::RecipeFactor => Some(Wide::Value(factor_place(self.record.recipe))),
             _ => None,
         }
@@ -373,7 +373,8 @@ impl Candidate {
 
     /// A value that was written is known.
     fn learn_written_value(&mut self, command: Command, reply: &[u8], fault: Fault) {
-        let (Command::WriteValue(place, value), b"OK") = (command, &reply[2..]) else {
+        let (Command::WriteValue(Named { place, .. }, value), b"OK") = (command, &reply[2..])
+        else {
             return;
         };
         self.values_known |= 1 << place;
@@ -470,7 +471,7 @@ fn keep_agreeing(candidates: &mut Vec<Candidate>, request: &[u8], reply: &[u8], 
     let told = told_of_alarms(command, text, fault);
     let mut others: Vec<Candidate> = match (command, &text[2..]) {
         // Every level stands at its low end here and passes, so that keypad and phase decide.
-        (Command::WriteValue(place, value), b"OK") => candidates
+        (Command::WriteValue(Named { place, .. }, value), b"OK") => candidates
             .iter_mut()
             .filter(|candidate| agrees(&candidate.record, command, text, fault))
             .filter_map(|candidate| candidate.split_by_held_value(place, value, fault))
@@ -478,8 +479,10 @@ fn keep_agreeing(candidates: &mut Vec<Candidate>, request: &[u8], reply: &[u8], 
         _ => vec![],
     };
     let mut step = |candidate: &mut Candidate| match command {
-        Command::Level(place) | Command::WriteValue(place, _) | Command::WriteLevel(place, _) => {
-            candidate.step_each_level(command, place, text, fault)
+        Command::Level(parameter)
+        | Command::WriteValue(parameter, _)
+        | Command::WriteLevel(parameter, _) => {
+            candidate.step_each_level(command, parameter.place, text, fault)
         }
         _ if fault == Fault::PhaseRefusalAlone && text[2..] == *b"NO05" => {
             let mut without_keypad = candidate.clone();

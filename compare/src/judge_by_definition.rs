@@ -8,15 +8,16 @@
 //! each sort.
 
 use crate::alarms;
-use crate::command::Command;
+use crate::command::{Command, Named};
 use crate::controller::{self, Outcome, Request};
 use crate::fault::{Fault, PLANTED};
 use crate::frame::{self, Kind};
 use crate::generate::recordings::{self, Exchanges};
 use crate::generate::{records, requests};
 use crate::judge::{judge, Judgement};
+use crate::parameters::{factor_place, is_factor, PARAMETERS, VALUE_RANGES};
 use crate::random::Random;
-use crate::record::{factor_place, is_factor, Phase, Record, PARAMETERS, RECIPES, VALUE_RANGES};
+use crate::record::{Phase, Record, RECIPES};
 use crate::recording::{self, Exchange};
 
 /// The record after an exchange, if the exchange agrees.
@@ -77,11 +78,13 @@ fn shown_numbers(
 /// The values to start with at a place: those that are shown or written there, and one other, if the
 /// range has one. Two others are never told apart.
 fn starting_values(asked: &[(Command, Exchange)], place: usize) -> Vec<u32> {
-    let mut values = shown_numbers(asked, 8, |command| {
-        command == Command::Value(place) || is_factor(place) && command == Command::RecipeFactor
+    let mut values = shown_numbers(asked, 8, |command| match command {
+        Command::Value(parameter) => parameter.place == place,
+        Command::RecipeFactor => is_factor(place),
+        _ => false,
     });
     values.extend(asked.iter().filter_map(|(command, _)| match *command {
-        Command::WriteValue(written, value) if written == place => Some(value),
+        Command::WriteValue(parameter, value) if parameter.place == place => Some(value),
         _ => None,
     }));
     let (low, high) = VALUE_RANGES[place];
@@ -222,9 +225,11 @@ fn starting_records(address: u8, access: u8, exchanges: &[Exchange]) -> Option<V
     let mut values_seen = [false; PARAMETERS];
     for (command, _) in &asked {
         match *command {
-            Command::Value(place) => values_seen[place] = true,
-            Command::Level(place) | Command::WriteLevel(place, _) => levels_seen[place] = true,
-            Command::WriteValue(place, _) => {
+            Command::Value(Named { place, .. }) => values_seen[place] = true,
+            Command::Level(Named { place, .. }) | Command::WriteLevel(Named { place, .. }, _) => {
+                levels_seen[place] = true;
+            }
+            Command::WriteValue(Named { place, .. }, _) => {
                 levels_seen[place] = true;
                 // The flag tells of the value that was written over.
                 values_seen[place] |= flags_shown;

@@ -17,6 +17,7 @@ mod judge;
 mod judge_by_definition;
 mod library;
 mod panel;
+mod parameters;
 mod planted;
 mod random;
 mod record;

@@ -1,6 +1,7 @@
 //! The controller's record, the ranges of its fields and its validity.
 
 use crate::alarms;
+use crate::parameters::{value_in_range, PARAMETERS, VALUE_RANGES};
 
 #[derive(Clone, Copy, PartialEq, Eq, PartialOrd, Ord, Debug)]
 pub enum Phase {
@@ -28,8 +29,6 @@ pub struct Parameter {
     pub level: u8,
 }
 
-pub const PARAMETERS: usize = 32;
-
 #[derive(Clone, Copy, PartialEq, Eq, PartialOrd, Ord, Debug)]
 pub struct Record {
     pub address: u8,
@@ -56,84 +55,6 @@ pub const RECIPES: u8 = 8;
 pub const HIGHEST_PRESET: u32 = 999_999;
 pub const HIGHEST_RAW: u32 = 99_999_999;
 pub const HIGHEST_NUMBER: u16 = 9_999;
-
-/// The code of the parameter at a place of the list: 011 to 083, then 801 to 808.
-pub const fn parameter_code(place: usize) -> u32 {
-    let place = place as u32;
-    if place < 24 {
-        (place / 3 + 1) * 10 + place % 3 + 1
-    } else {
-        801 + (place - 24)
-    }
-}
-
-/// The place of a parameter code in the list.
-pub fn parameter_place(code: u32) -> Option<usize> {
-    (0..PARAMETERS).find(|&place| parameter_code(place) == code)
-}
-
-/// The place of a recipe's factor in the list.
-pub fn factor_place(recipe: u8) -> usize {
-    (usize::from(recipe) - 1) * 3 + 1
-}
-
-/// Whether a place is that of a recipe's factor.
-pub fn is_factor(place: usize) -> bool {
-    place < 24 && place % 3 == 1
-}
-
-/// The place of the parameter of another recipe that has the same kind; a system parameter's own.
-pub fn same_kind_place(place: usize, recipe: u8) -> usize {
-    if place < 24 {
-        factor_place(recipe) - 1 + place % 3
-    } else {
-        place
-    }
-}
-
-const fn range_of_code(code: u32) -> (u32, u32) {
-    match code {
-        801 => (0, 99),
-        802 => (0, 999),
-        803 => (0, 9_999),
-        804 => (1, 9_999),
-        805 => (0, 3),
-        806 => (0, 1),
-        807 => (1, 99_999),
-        808 => (0, 9),
-        _ => match code % 10 {
-            1 => (0, 10_000),
-            2 => (8_000, 12_000),
-            _ => (1, 9_999),
-        },
-    }
-}
-
-/// The lowest and highest value of each parameter.
-pub const VALUE_RANGES: [(u32, u32); PARAMETERS] = {
-    let mut ranges = [(0, 0); PARAMETERS];
-    let mut place = 0;
-    while place < PARAMETERS {
-        ranges[place] = range_of_code(parameter_code(place));
-        place += 1;
-    }
-    ranges
-};
-
-/// A value of a parameter's range that is not this one; every range has two at least.
-pub fn another_value(place: usize, value: u32) -> u32 {
-    let (low, high) = VALUE_RANGES[place];
-    if value == low {
-        high
-    } else {
-        low
-    }
-}
-
-pub fn value_in_range(place: usize, value: u32) -> bool {
-    let (low, high) = VALUE_RANGES[place];
-    (low..=high).contains(&value)
-}
 
 impl Record {
     /// Every field at its low end, Idle, flags and alarms off.
@@ -180,28 +101,6 @@ impl Record {
 #[cfg(test)]
 mod tests {
     use super::*;
-
-    #[test]
-    fn codes_rise_and_are_found_again() {
-        for place in 0..PARAMETERS {
-            assert_eq!(parameter_place(parameter_code(place)), Some(place));
-            assert!(place == 0 || parameter_code(place - 1) < parameter_code(place));
-        }
-        for code in [0, 10, 14, 20, 84, 91, 800, 809, 999] {
-            assert_eq!(parameter_place(code), None);
-        }
-        assert_eq!(parameter_code(factor_place(3)), 32);
-    }
-
-    #[test]
-    fn every_range_has_another_value() {
-        for (place, (low, high)) in VALUE_RANGES.into_iter().enumerate() {
-            for value in [low, low + 1, high] {
-                let other = another_value(place, value);
-                assert!(other != value && value_in_range(place, other), "{place}");
-            }
-        }
-    }
 
     #[test]
     fn low_record_is_valid() {

@@ -2,7 +2,8 @@
 
 use crate::alarms;
 use crate::fault::Fault;
-use crate::record::{Parameter, Phase, Record, PARAMETERS};
+use crate::parameters::PARAMETERS;
+use crate::record::{Parameter, Phase, Record};
 
 /// The length of version 1 and of version 2.
 pub const LENGTHS: [usize; 2] = [177, STORED_LENGTH];

@@ -3,10 +3,12 @@
 
 use crate::alarms;
 use crate::controller::{self, Outcome};
+use crate::enumeration::plain_record;
 use crate::fault::Fault;
 use crate::frame::{framed, Kind};
 use crate::judge::{judge, Judgement};
-use crate::record::{factor_place, parameter_code, parameter_place, Phase, Record, VALUE_RANGES};
+use crate::parameters::{factor_place, parameter_code, parameter_place, LIST, VALUE_RANGES};
+use crate::record::{Phase, Record};
 use crate::recording;
 use std::fs;
 use std::path::Path;
@@ -465,6 +467,54 @@ fn judge_of_the_changed_flag() {
     assert!(fits(&[shown, write, on]));
     assert!(refuted_at_last(&[shown, write_other, off]));
     assert!(refuted_at_last(&[shown, write, off, write, on]));
+}
+
+/// What a listed parameter shows, and that a write changes it and no other.
+fn ask_listed(record: Record, place: usize) {
+    let code = LIST[place].code;
+    let (low, high) = LIST[place].range;
+    let held = record.parameters[place];
+    let value = format!("PV {code:03} {:08}", held.value);
+    let level = format!("XV {code:03} {}", held.level);
+    assert_eq!(ask(record, &format!("PV {code:03}"), &value), record);
+    assert_eq!(ask(record, &format!("XV {code:03}"), &level), record);
+    for value in [low, high] {
+        let mut expected = record;
+        expected.parameters[place].value = value;
+        expected.changed = value != held.value;
+        let written = ask(record, &format!("PC {code:03} {value}"), "OK");
+        assert_eq!(written, expected);
+    }
+    for level in 0..=3 {
+        let mut expected = record;
+        expected.parameters[place].level = level;
+        let written = ask(record, &format!("XC {code:03} {level}"), "OK");
+        assert_eq!(written, expected);
+    }
+    for value in low.checked_sub(1).into_iter().chain([high + 1]) {
+        let refused = ask(record, &format!("PC {code:03} {value}"), "NO06");
+        assert_eq!(refused, record);
+    }
+}
+
+/// Every code gives a parameter exactly where document 01 lists one.
+#[test]
+fn every_parameter_code() {
+    let record = Record {
+        address: 1,
+        access: 3,
+        ..plain_record()
+    };
+    for code in 0..=999 {
+        if let Some(place) = LIST.iter().position(|listed| listed.code == code) {
+            ask_listed(record, place);
+            continue;
+        }
+        for (command, argument) in [("PV", ""), ("XV", ""), ("PC", " 1"), ("XC", " 1")] {
+            let refused = ask(record, &format!("{command} {code:03}{argument}"), "NO04");
+            assert_eq!(refused, record);
+        }
+    }
 }
 
 /// The answers that the example recordings are given beside them.

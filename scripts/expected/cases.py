@@ -243,6 +243,11 @@ def values():
         for number in (0, 1, 10, 14, 20, 24, 84, 91, 93, 111, 320, 800, 809, 899, 999):
             ask("%s %03d" % (code, number))
     ask("PC 034 5", "PC 809 5", "PC 000 0", "PC 999 99999999", "XC 034 1", "XC 809 9", "XC 000 0", "PV 032", "XV 032")
+    note("Recipes 0 and 9, a fourth kind, and hundreds before a recipe's code")
+    for number in (2, 3, 90, 92, 94, 100, 121, 811):
+        ask("PV %03d" % number)
+    for number in (1, 14, 91, 111):
+        ask("PC %03d 9000" % number, "XC %03d 1" % number)
 
     section("NO30")
     ask("NR 00", "NR 09", "NR 99", "NR 10", "NR 01", "RR", "RC", "NR 08", "RR", "RC", "NR 03", "RC")
@@ -538,11 +543,15 @@ def panel():
 def stored():
     form = form_of(bench())
     old = form_of(bench(), 1)
-    section("The bench record, stored; and read back, every value and level")
+    section("The bench record, stored; and read back")
     start()
     with_room(183, "write")
     with_room(180, "write")
     line("load" + spaced(form))
+    ask("PV 032", "XV 032", "PV 807", "XV 807")
+
+    section("Every value and level read back from its place; no two values are the same")
+    line("load" + spaced(form_of(told_apart())))
     for code in sorted(RANGES):
         ask("PV %03d" % code, "XV %03d" % code)
 
@@ -618,6 +627,16 @@ def stored():
     start()
     field("032", 12001)
     with_room(183, "write")
+
+
+def told_apart():
+    """A record in which no two parameters hold the same value."""
+    record = bench()
+    for place, code in enumerate(sorted(RANGES)):
+        low, high = RANGES[code]
+        record = record.but_parameter(code, value=low + (7 * place + 5) % (high - low + 1), level=place % 4)
+    assert len(set(record.values.values())) == len(RANGES)
+    return record
 
 
 def highest():

@@ -5,7 +5,8 @@ use crate::alarms;
 use crate::command::CODES;
 use crate::comparison::{Comparison, Difference};
 use crate::frame::Kind;
-use crate::record::{factor_place, parameter_code, Phase, Record, RECIPES, VALUE_RANGES};
+use crate::parameters::{factor_place, parameter_code};
+use crate::record::{Phase, Record, RECIPES};
 use crate::stored;
 
 /// Texts that meet each refusal and each acceptance.
@@ -44,7 +45,7 @@ fn telling_texts() -> Vec<String> {
 }
 
 /// Calls `visit` with every phase, keypad, access and level of all parameters.
-fn each_state(
+pub fn each_state(
     mut visit: impl FnMut(Record, u8) -> Result<(), Difference>,
 ) -> Result<(), Difference> {
     for phase in Phase::ALL {
@@ -90,37 +91,6 @@ pub fn refusals(comparison: &mut Comparison) -> Result<(), Difference> {
         }
         Ok(())
     })
-}
-
-/// Each parameter by its own level, the others having another.
-pub fn parameters(comparison: &mut Comparison) -> Result<(), Difference> {
-    let reply = buffer(80);
-    for (place, (low, high)) in VALUE_RANGES.into_iter().enumerate() {
-        let code = parameter_code(place);
-        let mut texts = vec![format!("PV {code:03}"), format!("XV {code:03}")];
-        for value in [low.wrapping_sub(1), low, high, high + 1] {
-            if value <= 99_999_999 {
-                texts.push(format!("PC {code:03} {value}"));
-                texts.push(format!("PC {code:03} {value:08}"));
-            }
-        }
-        for level in 0..=9 {
-            texts.push(format!("XC {code:03} {level}"));
-        }
-        each_state(|mut record, level| {
-            for parameter in &mut record.parameters {
-                parameter.level = (level + 2) % 4;
-            }
-            record.parameters[place].level = level;
-            let form = stored::form(&record);
-            for text in &texts {
-                let request = request(Kind::Minicomputer, record.address, text);
-                comparison.call(0, &form, &request, &reply)?;
-            }
-            Ok(())
-        })?;
-    }
-    Ok(())
 }
 
 /// Each recipe before and after each request that has to do with recipes, RC asked afterwards.

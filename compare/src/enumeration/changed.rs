@@ -2,9 +2,10 @@
 
 use super::{buffer, plain_record, request, KINDS};
 use crate::comparison::{Comparison, Difference};
-use crate::record::{
-    another_value, parameter_code, same_kind_place, value_in_range, Record, PARAMETERS, RECIPES,
+use crate::parameters::{
+    another_value, parameter_code, same_kind_place, value_in_range, PARAMETERS,
 };
+use crate::record::{Record, RECIPES};
 use crate::stored;
 
 /// Values of the range beside the one held: an end, those that differ from it in one bit, and those

@@ -1,17 +1,19 @@
 //! What is enumerated and not sampled: every refusal against every phase, keypad, access and level,
-//! every combination of damages to a frame, every byte of a stored form, every alarm, every parameter
-//! rewritten, every pair of telling exchanges.
+//! every combination of damages to a frame, every byte of a stored form, every parameter code, every
+//! alarm, every parameter rewritten, every pair of telling exchanges.
 
 mod alarms;
 mod calls;
 mod changed;
 mod frames;
+mod parameters;
 mod recordings;
 mod records;
 
 use crate::comparison::{Comparison, Difference};
 use crate::frame::{self, Kind};
-use crate::record::{Record, VALUE_RANGES};
+use crate::parameters::VALUE_RANGES;
+use crate::record::Record;
 
 const KINDS: [Kind; 2] = [Kind::Minicomputer, Kind::Terminal];
 
@@ -21,7 +23,8 @@ pub fn enumerate(comparison: &mut Comparison) -> Result<(), Difference> {
     recordings::recordings(comparison)?;
     changed::rewritten_values(comparison)?;
     calls::refusals(comparison)?;
-    calls::parameters(comparison)?;
+    parameters::parameters(comparison)?;
+    parameters::code_recordings(comparison)?;
     calls::recipes(comparison)?;
     calls::codes(comparison)?;
     frames::damaged_frames(comparison)?;
@@ -43,8 +46,8 @@ fn request(kind: Kind, address: u8, command: &str) -> Vec<u8> {
     frame::framed(kind, format!("{address:02}{command}").as_bytes())
 }
 
-/// A record in which no two parameters share value and level by accident.
-fn plain_record() -> Record {
+/// A record in which no two parameters hold the same value.
+pub fn plain_record() -> Record {
     let mut record = Record {
         address: 42,
         recipe: 3,
@@ -55,7 +58,7 @@ fn plain_record() -> Record {
     };
     for (place, parameter) in record.parameters.iter_mut().enumerate() {
         let (low, high) = VALUE_RANGES[place];
-        parameter.value = low + (place as u32 * 7 + 1) % (high - low + 1);
+        parameter.value = low + (place as u32 * 7 + 5) % (high - low + 1);
     }
     record
 }

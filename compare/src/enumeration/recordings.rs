@@ -5,7 +5,7 @@ use super::request;
 use crate::comparison::{Comparison, Difference};
 use crate::frame::Kind;
 use crate::generate::recordings::Exchanges;
-use crate::record::{parameter_code, PARAMETERS, VALUE_RANGES};
+use crate::parameters::{parameter_code, PARAMETERS, VALUE_RANGES};
 use crate::recording;
 
 /// Exchanges that tell the judge something: request and replies.
@@ -103,7 +103,7 @@ const TELLING_CHANGED: [(&str, &str); 9] = [
     ("PV 032", "PV 032 00009000"), ("RC", "RC 03 00009000"),
 ];
 
-fn telling_exchange(address: u8, command: &str, reply: &str) -> (Vec<u8>, Vec<u8>) {
+pub fn telling_exchange(address: u8, command: &str, reply: &str) -> (Vec<u8>, Vec<u8>) {
     let reply = if reply.is_empty() {
         vec![]
     } else {

@@ -5,10 +5,9 @@ use crate::fault::Fault;
 use crate::frame::{self, Kind};
 use crate::generate::records::{self, Field};
 use crate::generate::requests;
+use crate::parameters::{factor_place, parameter_code, PARAMETERS, VALUE_RANGES};
 use crate::random::Random;
-use crate::record::{
-    factor_place, parameter_code, Phase, Record, HIGHEST_LEVEL, PARAMETERS, RECIPES, VALUE_RANGES,
-};
+use crate::record::{Phase, Record, HIGHEST_LEVEL, RECIPES};
 use crate::recording;
 
 pub type Exchanges = Vec<(Vec<u8>, Vec<u8>)>;

@@ -1,10 +1,11 @@
 //! Valid records, and records that differ from another in one field.
 
 use crate::alarms::{self, HIGHEST_ALARM};
+use crate::parameters::{PARAMETERS, VALUE_RANGES};
 use crate::random::Random;
 use crate::record::{
     Phase, Record, HIGHEST_ADDRESS, HIGHEST_LEVEL, HIGHEST_NUMBER, HIGHEST_PRESET, HIGHEST_RAW,
-    PARAMETERS, RECIPES, VALUE_RANGES,
+    RECIPES,
 };
 
 /// A number of a range: mostly near its ends if `edges` is set, else any.

@@ -3,8 +3,9 @@
 use crate::command::CODES;
 use crate::frame::{self, Kind};
 use crate::generate::records;
+use crate::parameters::{parameter_code, VALUE_RANGES};
 use crate::random::Random;
-use crate::record::{parameter_code, Record, VALUE_RANGES};
+use crate::record::Record;
 
 /// A number printed in its least width or wider.
 fn printed(random: &mut Random, number: u32, most: usize) -> String {

@@ -1,8 +1,8 @@
 //! Stored forms: right, with fields out of range, and damaged.
 
 use crate::generate::records;
+use crate::parameters::{PARAMETERS, VALUE_RANGES};
 use crate::random::Random;
-use crate::record::{PARAMETERS, VALUE_RANGES};
 use crate::stored;
 
 /// Puts one field of a form that is long enough out of its range, or to its edge.

@@ -1,16 +1,17 @@
 -- Document 01, "Commands", first table, with the rows of 02, L1, and PC's flag by 02, L2: each request's code, the form of its arguments, its
 -- reply if accepted, and its effect.
-use Prim.Native.Nat.{ℕ, _+_, _-_, _*_}
+use Prim.Native.Nat.{ℕ, _+_, _*_}
 use mathlib.Core.Bool.{Bool, true, false, _&&_}
 use mathlib.Core.List.{List, [], _∷_, _++_}
 use lib.Dec.{eqb}
 use lib.ListN.{length, getD, take, drop}
 use Rattle.base.specs.Text.{text, letters}
 use Rattle.state.specs.declared.Record.{Record}
+use Rattle.state.specs.declared.ParameterKind.the-variants.{Factor}
 use Rattle.state.specs.declared.Place.{Place}
 use Rattle.state.specs.declared.Place.the-variants.{At, Nothing}
 use Rattle.base.specs.Test.{pick, between}
-use Rattle.state.specs.Parameter.{parameterCount, placeOf, codeAt}
+use Rattle.state.specs.Parameter.{parameterCount, placeOf, codeAt, recipePlace}
 use Rattle.state.specs.Field.{Field, phase, changed, reset, recipe, preset, raw, number, alarms, value, level, get, put, on, off}
 use Rattle.state.specs.Event.{idle, set, running, stopped, nextNumber, alarmsReset, replaced}
 use Rattle.text.specs.Word.{space, digits, allDigits, valueOf, equal, oneOf}
@@ -174,7 +175,7 @@ parameterLabel w i = w ++ (digits 3 (codeAt i) ++ (space ∷ []))
 
 -- the place of recipe r's factor
 abbrev pub factorPlace : ℕ → ℕ
-factorPlace r = 3 * (r - 1) + 1
+factorPlace r = recipePlace r Factor
 
 abbrev pub printed : Reply → Record → List ℕ
 printed acknowledged r = text "OK"

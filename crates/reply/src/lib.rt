@@ -2,11 +2,13 @@
 use command::Answer;
 use command::Reading;
 use state::DONE;
+use state::ParameterKind;
 use state::RUNNING;
 use state::Record;
 use state::SET;
 use state::STOPPED;
 use state::code_at;
+use state::recipe_place;
 use text::put_digits;
 use text::put_word;
 ghost use mathlib.Core.Path.{_≡_};
@@ -17,7 +19,7 @@ ghost use Rattle.base.specs.Test.{pick};
 ghost use Rattle.base.specs.Lists.{overAt};
 ghost use Rattle.state.specs.Field.{flagNumber};
 ghost use Rattle.command.specs.Status.{statusCharacters, alarmCharacters, statusCodes, codesOn};
-ghost use Rattle.command.specs.Commands.{factorPlace, printed};
+ghost use Rattle.command.specs.Commands.{printed};
 ghost use Rattle.command.specs.Request.{readingAs, replyOf, answerAs};
 ghost use Rattle.reply.specs.Reply.{labelled, labelledTwo, writtenOf};
 
@@ -133,16 +135,6 @@ fn put_codes(r: Record, at: usize, out: &mut [u8]) -> usize
     put_if(p == RUNNING, b"RL ", begun, out)
 }
 
-// The place of a recipe's factor.
-fn factor_place(recipe: u8) -> usize
-    ensures { λ i. ⌜ i ≡ factorPlace recipe ⌝ }
-{
-    if recipe == 0 {
-        return 1;
-    }
-    3 * (recipe as usize - 1) + 1
-}
-
 // What a request is shown.
 fn put_shown(r: Record, reading: Reading, at: usize, out: &mut [u8]) -> usize
     requires { ⌜ at + 30 ≤ length (now out) ⌝ }
@@ -160,7 +152,7 @@ fn put_shown(r: Record, reading: Reading, at: usize, out: &mut [u8]) -> usize
             b"RC ",
             r.recipe as u32,
             2,
-            r.value_at(factor_place(r.recipe)),
+            r.value_at(recipe_place(r.recipe as u16, ParameterKind::Factor)),
             8,
             at,
             out,

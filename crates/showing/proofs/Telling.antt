@@ -9,12 +9,14 @@ use lib.ListN.{length, take, drop, length-take, length-drop}
 use lib.Seq.{take-all}
 use borrow.Author.Tests.{ne-eqb, not-true, not-false, eqb-true}
 use Rattle.base.specs.Test.{between}
-use Rattle.base.proofs.Tests.{holds-below, between-low}
+use Rattle.base.proofs.Tests.{holds-below, between-low, between-high}
 use Rattle.base.specs.Text.{text}
 use Rattle.state.specs.Field.{recipe, value, level, position, fieldRange, flagNumber}
 use Rattle.state.specs.Valid.{within}
+use Rattle.state.specs.declared.ParameterKind.the-variants.{Factor}
 use Rattle.state.specs.declared.Range.{Range}
-use Rattle.state.specs.Parameter.{recipes, parameterCount, rangeAt}
+use Rattle.state.specs.Parameter.{recipes, kindRange, parameterCount, rangeAt}
+use Rattle.state.proofs.Parameters.{range-given-kind}
 use Rattle.command.specs.declared.Reading.{Reading}
 use Rattle.command.specs.declared.Reading.the-variants as reading
 use Rattle.text.specs.declared.Digits.{Digits}
@@ -96,8 +98,18 @@ module _ (s : List ℕ) (k : Knowledge) (b : Bool) (e : b ≡ equal s (0x4f ∷ 
 pub ruleset ok-read = (ok-stands, ok-fails)
 
 -- ---- `show_composition`
-pub recipe-low : (n : ℕ) (b : Bool) → b ≡ within (fieldRange recipe) n → not b ≡ false → 2 ≤ 3 * n
-recipe-low n b e i = omega (arith, between-low (fieldRange recipe .low) (fieldRange recipe .high) n (sym e ∙ not-false b i))
+module _ (n : ℕ) (b : Bool) (e : b ≡ within (fieldRange recipe) n) (i : not b ≡ false) where
+  recipe-low : fieldRange recipe .low ≤ n
+  recipe-low = between-low (fieldRange recipe .low) (fieldRange recipe .high) n (sym e ∙ not-false b i)
+
+  recipe-high : n ≤ fieldRange recipe .high
+  recipe-high = between-high (fieldRange recipe .low) (fieldRange recipe .high) n (sym e ∙ not-false b i)
+
+  pub recipe-small : n < 65536
+  recipe-small = omega (arith, recipe-high)
+
+  factor-range : kindRange Factor ≡ rangeAt (factorPlace n)
+  factor-range = range-given-kind n Factor recipe-low recipe-high
 
 module _ (s : List ℕ) (k r : Knowledge) where
   pub recipe-short : length s < 5 → r ≡ dead k → r ≡ shown composition s k
@@ -120,18 +132,16 @@ module _ (s : List ℕ) (k r : Knowledge) where
           let u : dead k ≡ compositionShown (digitsRead.Number n) (numberBehind (text " ") 8 (drop 5 s)) k = simp (← t, not-true b o) in
           h ∙ (u ∙ as-read (digitsRead.Number n) e)
 
-      pub recipe-factor : (m : ℕ) (g : Range) (a : Knowledge) → not b ≡ false → m ≡ alone recipe n → a ≡ restricted (position recipe) m k
-          → g ≡ rangeAt (3 * n - 2) → r ≡ toldBy (position (value (3 * n - 2))) g (numberBehind (text " ") 8 (take (length s - 5) (drop 5 s))) a
-          → r ≡ shown composition s k
-      recipe-factor m g a i z y x h =
+      pub recipe-factor : (m j : ℕ) (a : Knowledge) → not b ≡ false → m ≡ alone recipe n → a ≡ restricted (position recipe) m k → j ≡ factorPlace n
+          → r ≡ toldBy (position (value j)) (kindRange Factor) (numberBehind (text " ") 8 (take (length s - 5) (drop 5 s))) a → r ≡ shown composition s k
+      recipe-factor m j a i z y x h =
           let p : ℕ = position (value (factorPlace n)) in
-          let j : 3 * n - 2 ≡ factorPlace n = omega (arith, recipe-low n b t i) in
           let f : Digits = numberBehind (text " ") 8 (drop 5 s) in
           let c : Knowledge = numberShown recipe (digitsRead.Number n) k in
           let v : take (length s - 5) (drop 5 s) ≡ drop 5 s = take-all (length s - 5) (drop 5 s) (omega (arith, length-drop 5 s)) in
           let u : toldBy p (rangeAt (factorPlace n)) f c ≡ compositionShown (digitsRead.Number n) f k = simp (← t, not-false b i) in
-          h ∙ (ap (λ (q : ℕ). toldBy (position (value q)) g (numberBehind (text " ") 8 (take (length s - 5) (drop 5 s))) a) j
-          ∙ (ap (λ (l : List ℕ). toldBy p g (numberBehind (text " ") 8 l) a) v ∙ (ap (λ (q : Range). toldBy p q f a) (x ∙ ap rangeAt j)
+          h ∙ (ap (λ (q : ℕ). toldBy (position (value q)) (kindRange Factor) (numberBehind (text " ") 8 (take (length s - 5) (drop 5 s))) a) x
+          ∙ (ap (λ (l : List ℕ). toldBy p (kindRange Factor) (numberBehind (text " ") 8 l) a) v ∙ (ap (λ (q : Range). toldBy p q f a) (factor-range n b t i)
           ∙ (ap (toldBy p (rangeAt (factorPlace n)) f) (y ∙ ap (λ (q : ℕ). restricted (position recipe) q k) z) ∙ (u ∙ as-read (digitsRead.Number n) e)))))
 
 pub ruleset recipe-read = (recipe-short, recipe-nothing, recipe-outside, recipe-factor)

@@ -26,9 +26,11 @@ use knowledge::SET;
 use knowledge::SOME_ALARM;
 use knowledge::STOPPED;
 use knowledge::VALUES;
+use state::FACTOR_RANGE;
 use state::LEVEL_RANGE;
 use state::NUMBER_RANGE;
 use state::PARAMETERS;
+use state::ParameterKind;
 use state::RAW_RANGE;
 use state::RECIPE_RANGE;
 use state::Range;
@@ -160,11 +162,11 @@ fn show_composition(k: Knowledge, s: &[u8]) -> Knowledge
     if !is_between(RECIPE_RANGE.low, RECIPE_RANGE.high, n) {
         return k.refuted();
     }
-    let place = 3 * (n as usize) - 2;
+    let place = state::recipe_place(n as u16, ParameterKind::Factor);
     show_number(
         k.restrict(RECIPE, alone(RECIPE_RANGE.low, RECIPE_RANGE.high, n)),
         VALUES + 2 * place,
-        state::range_at(place),
+        FACTOR_RANGE,
         &s[5..],
         b" ",
         8,

@@ -1,22 +1,26 @@
 -- The arithmetic of codes, places and ranges, over any number of recipes whose codes stay below the system's. Assumes nothing.
 use Prim.Native.Nat.{ℕ, zero, suc, _+_, _-_, _*_, _/_, _%_, _≤_, _<_}
-use mathlib.Core.Bool.{Bool, true, false}
+use mathlib.Core.Bool.{Bool, true, false, not, false≢true}
 use mathlib.Core.Path.{_≡_, refl, sym, ap, _∙_}
 use mathlib.Core.List.{List, [], _∷_, map}
 use mathlib.Core.Logic.{_⊎_, ⊎-elim}
-use native.Mathlib.Nat.{not-suc-le-zero, le-of-suc-le-suc}
+use native.Mathlib.Nat.{eq-or-lt-of-le, not-suc-le-zero, le-of-suc-le-suc}
 use native.Mathlib.Omega.{arith}
 use native.Mathlib.Numerals.{add-one}
 use lib.Dec.{eqb}
 use lib.ListN.{length, getD, length-append, List·getD-append, List·getD-eq-default, List·getD-map}
 use lib.Seq.{getD-append-add}
-use borrow.Author.Tests.{eq-eqb, ne-eqb, eqb-true}
+use borrow.Author.Tests.{eq-eqb, ne-eqb, eqb-true, not-true, not-false}
+use Rattle.state.specs.declared.ParameterKind.{ParameterKind}
+use Rattle.state.specs.declared.ParameterKind.the-variants.{Share, Factor, LowFlow}
+use Rattle.state.specs.declared.RecipeParameter.{RecipeParameter}
+use Rattle.state.specs.declared.RecipeParameter.the-variants as digits
 use Rattle.state.specs.declared.Range.{Range}
 use Rattle.state.specs.declared.Place.{Place}
 use Rattle.state.specs.declared.Place.the-variants.{At, Nothing}
-use Rattle.base.specs.Test.{pick}
-use Rattle.state.specs.Parameter.{Parameter, share, factor, lowFlow, copies, recipes, codeOf, rangeOf, range, recipeParameters, systemParameters, parametersFor, parameterCount, codeAt, rangeAt, later, placeIn, placeOf}
-use Rattle.base.proofs.Tests.{below-or-not, holds-below}
+use Rattle.base.specs.Test.{pick, between}
+use Rattle.state.specs.Parameter.{Parameter, ofRecipe, copies, recipes, codeOf, kindRange, rangeOf, range, kinds, recipeParameters, systemParameters, parametersFor, parameterCount, codeAt, rangeIn, rangeAt, later, placeIn, placeOf, byUnits, byDigits, kindPlace, recipePlace, digitsPlace, Ruled}
+use Rattle.base.proofs.Tests.{by-test, below-or-not, holds-below, between-yes, between-no, between-low, between-high}
 
 -- ---- an element of a mapped list, whatever stands for a missing one
 getD-map-below : {A B : Type 0} (f : A → B) (l : List A) (i : ℕ) (d : A) (e : B) → i < length l → getD (map f l) i e ≡ f (getD l i d)
@@ -26,9 +30,9 @@ getD-map-below f (x ∷ xs) (suc i) d e h = getD-map-below f xs i d e (le-of-suc
 
 -- ---- the parameter at a place
 
--- a recipe's parameter by its kind: 0 share, 1 factor, 2 low flow
-abbrev pub ofRecipe : ℕ → ℕ → Parameter
-ofRecipe r u = getD (share r ∷ factor r ∷ lowFlow r ∷ []) u copies
+-- the kind of a recipe's parameter at place i
+abbrev kindAt : ℕ → ParameterKind
+kindAt i = getD kinds (i % 3) LowFlow
 
 pub recipe-length : (n : ℕ) → length (recipeParameters n) ≡ 3 * n
 recipe-length zero = refl
@@ -37,21 +41,45 @@ recipe-length (suc n) = let h = recipe-length n in length-append (recipeParamete
 pub list-length : (n : ℕ) → length (parametersFor n) ≡ 3 * n + 8
 list-length n = let h = recipe-length n in length-append (recipeParameters n) systemParameters ∙ omega arith
 
--- tens for the recipe and units for the kind
-pub recipe-at : (n i : ℕ) → i < 3 * n → getD (recipeParameters n) i copies ≡ ofRecipe (i / 3 + 1) (i % 3)
-recipe-at zero i h = absurd (omega arith)
-recipe-at (suc n) i h =
-    let l = recipe-length n in
-    ⊎-elim (λ (q : i < 3 * n). List·getD-append (recipeParameters n) _ copies i (omega arith) ∙ recipe-at n i q)
-    (λ (q : 3 * n ≤ i).
-    let e : i ≡ length (recipeParameters n) + i % 3 = omega arith in
-    let r : suc n ≡ i / 3 + 1 = omega arith in
-    ap (λ (j : ℕ). getD (recipeParameters (suc n)) j copies) e ∙ (getD-append-add (recipeParameters n) _ (i % 3) copies ∙ ap (λ (k : ℕ). ofRecipe k (i % 3)) r))
-    (below-or-not i (3 * n))
+-- each kind has its own place among the three
+kind-there : (k : ParameterKind) → getD kinds (kindPlace k) LowFlow ≡ k
+kind-there Share = refl
+kind-there Factor = refl
+kind-there LowFlow = refl
+
+pub kind-low : (k : ParameterKind) → kindPlace k < 3
+kind-low Share = omega arith
+kind-low Factor = omega arith
+kind-low LowFlow = omega arith
+
+pub kind-place : (i : ℕ) → kindPlace (kindAt i) ≡ i % 3
+kind-place i = eqb-true _ _ (holds-below (λ (u : ℕ). eqb (kindPlace (getD kinds u LowFlow)) u) 3 refl (i % 3) (omega arith))
+
+-- a place of the recipes is a recipe's, by its kind
+pub place-split : (i : ℕ) → recipePlace (i / 3 + 1) (kindAt i) ≡ i
+place-split i = let e = kind-place i in omega arith
+
+recipe-there : (n r : ℕ) (k : ParameterKind) → 1 ≤ r → r ≤ n → getD (recipeParameters n) (recipePlace r k) copies ≡ ofRecipe r k
+recipe-there zero r k l h = absurd (omega arith)
+recipe-there (suc n) r k l h =
+    let e = recipe-length n in
+    let b = kind-low k in
+    ⊎-elim (λ (q : r ≡ suc n).
+    let p : recipePlace r k ≡ length (recipeParameters n) + kindPlace k = omega arith in
+    ap (λ (j : ℕ). getD (recipeParameters (suc n)) j copies) p ∙ (getD-append-add (recipeParameters n) _ (kindPlace k) copies
+    ∙ (getD-map-below (ofRecipe (suc n)) kinds (kindPlace k) LowFlow copies b ∙ (ap (ofRecipe (suc n)) (kind-there k) ∙ ap (λ (m : ℕ). ofRecipe m k) (sym q)))))
+    (λ (q : r < suc n). List·getD-append (recipeParameters n) _ copies (recipePlace r k) (omega arith) ∙ recipe-there n r k l (omega arith))
+    (eq-or-lt-of-le h)
 
 module _ (n : ℕ) where
-  pub at-recipe : (i : ℕ) → i < 3 * n → getD (parametersFor n) i copies ≡ ofRecipe (i / 3 + 1) (i % 3)
-  at-recipe i h = let l = recipe-length n in List·getD-append (recipeParameters n) systemParameters copies i (omega arith) ∙ recipe-at n i h
+  pub at-recipe : (r : ℕ) (k : ParameterKind) → 1 ≤ r → r ≤ n → getD (parametersFor n) (recipePlace r k) copies ≡ ofRecipe r k
+  at-recipe r k l h =
+      let e = recipe-length n in
+      let b = kind-low k in
+      List·getD-append (recipeParameters n) systemParameters copies (recipePlace r k) (omega arith) ∙ recipe-there n r k l h
+
+  pub at-place : (i : ℕ) → i < 3 * n → getD (parametersFor n) i copies ≡ ofRecipe (i / 3 + 1) (kindAt i)
+  at-place i h = ap (λ (j : ℕ). getD (parametersFor n) j copies) (sym (place-split i)) ∙ at-recipe (i / 3 + 1) (kindAt i) (omega arith) (omega arith)
 
   pub at-system : (i : ℕ) → 3 * n ≤ i → getD (parametersFor n) i copies ≡ getD systemParameters (i - 3 * n) copies
   at-system i h =
@@ -60,14 +88,10 @@ module _ (n : ℕ) where
       ap (λ (j : ℕ). getD (parametersFor n) j copies) e ∙ getD-append-add (recipeParameters n) systemParameters (i - 3 * n) copies
 
 -- ---- codes
-three : (P : ℕ → Type 0) (u : ℕ) → u < 3 → P 0 → P 1 → P 2 → P u
-three P zero h a b c = a
-three P (suc zero) h a b c = b
-three P (suc (suc zero)) h a b c = c
-three P (suc (suc (suc u))) h a b c = absurd (omega arith)
-
-recipe-code : (r u : ℕ) → u < 3 → codeOf (ofRecipe r u) ≡ 10 * r + u + 1
-recipe-code r u h = three (λ (v : ℕ). codeOf (ofRecipe r v) ≡ 10 * r + v + 1) u h (omega arith) (omega arith) (omega arith)
+pub recipe-code : (r : ℕ) (k : ParameterKind) → codeOf (ofRecipe r k) ≡ 10 * r + (kindPlace k + 1)
+recipe-code r Share = omega arith
+recipe-code r Factor = omega arith
+recipe-code r LowFlow = omega arith
 
 system-code : (i : ℕ) → i < 8 → codeOf (getD systemParameters i copies) ≡ 801 + i
 system-code i h = eqb-true _ _ (holds-below (λ (j : ℕ). eqb (codeOf (getD systemParameters j copies)) (801 + j)) 8 refl i h)
@@ -77,8 +101,8 @@ abbrev pub codeFor : ℕ → ℕ → ℕ
 codeFor n i = codeOf (getD (parametersFor n) i copies)
 
 module _ (n : ℕ) where
-  pub code-recipe : (i : ℕ) → i < 3 * n → codeFor n i ≡ 10 * (i / 3 + 1) + i % 3 + 1
-  code-recipe i h = ap codeOf (at-recipe n i h) ∙ recipe-code (i / 3 + 1) (i % 3) (omega arith)
+  pub code-recipe : (i : ℕ) → i < 3 * n → codeFor n i ≡ 10 * (i / 3 + 1) + (i % 3 + 1)
+  code-recipe i h = let e = kind-place i in ap codeOf (at-place n i h) ∙ (recipe-code (i / 3 + 1) (kindAt i) ∙ omega arith)
 
   pub code-system : (i : ℕ) → 3 * n ≤ i → i < 3 * n + 8 → codeFor n i ≡ 801 + (i - 3 * n)
   code-system i h l = ap codeOf (at-system n i h) ∙ system-code (i - 3 * n) (omega arith)
@@ -119,37 +143,109 @@ module _ (n : ℕ) (few : n ≤ 79) where
       place-first (codeFor n i) (parametersFor n) i (omega arith) refl (λ j q e. let r = codes-rise n few j i q h in omega arith)
 
   -- "for recipe r: 10r+1 .., 10r+2 .., 10r+3"
-  pub place-recipe : (c r : ℕ) → 1 ≤ r → r ≤ n → 10 * r + 1 ≤ c → c ≤ 10 * r + 3 → placeIn c (parametersFor n) ≡ At (3 * (r - 1) + (c - (10 * r + 1)))
-  place-recipe c r a b l h =
-      let i : ℕ = 3 * (r - 1) + (c - (10 * r + 1)) in
-      let e : codeFor n i ≡ c = let q = code-recipe n i (omega arith) in omega arith in
-      ap (λ (x : ℕ). placeIn x (parametersFor n)) (sym e) ∙ place-of-code i (omega arith)
+  place-recipe : (r : ℕ) (k : ParameterKind) → 1 ≤ r → r ≤ n → placeIn (codeOf (ofRecipe r k)) (parametersFor n) ≡ At (recipePlace r k)
+  place-recipe r k l h =
+      let b = kind-low k in
+      ap (λ (p : Parameter). placeIn (codeOf p) (parametersFor n)) (sym (at-recipe n r k l h)) ∙ place-of-code (recipePlace r k) (omega arith)
 
   -- "System: 801 .. 808"
-  pub place-system : (c : ℕ) → 801 ≤ c → c ≤ 808 → placeIn c (parametersFor n) ≡ At (3 * n + (c - 801))
+  place-system : (c : ℕ) → 801 ≤ c → c ≤ 808 → placeIn c (parametersFor n) ≡ At (3 * n + (c - 801))
   place-system c l h =
       let i : ℕ = 3 * n + (c - 801) in
       let e : codeFor n i ≡ c = let q = code-system n i (omega arith) (omega arith) in omega arith in
       ap (λ (x : ℕ). placeIn x (parametersFor n)) (sym e) ∙ place-of-code i (omega arith)
 
-  pub place-unlisted : (c : ℕ) → ((r : ℕ) → 1 ≤ r → r ≤ n → 10 * r + 1 ≤ c → c ≤ 10 * r + 3 → ⊥) → (801 ≤ c → c ≤ 808 → ⊥)
+  place-unlisted : (c : ℕ) → ((r : ℕ) (k : ParameterKind) → 1 ≤ r → r ≤ n → codeOf (ofRecipe r k) ≡ c → ⊥) → (801 ≤ c → c ≤ 808 → ⊥)
       → placeIn c (parametersFor n) ≡ Nothing
   place-unlisted c noRecipe noSystem =
       let l = list-length n in
       place-none c (parametersFor n)
       (λ j h e.
-      ⊎-elim (λ (q : j < 3 * n). let a = code-recipe n j q in noRecipe (j / 3 + 1) (omega arith) (omega arith) (omega arith) (omega arith))
+      ⊎-elim (λ (q : j < 3 * n). noRecipe (j / 3 + 1) (kindAt j) (omega arith) (omega arith) (ap codeOf (sym (at-place n j q)) ∙ e))
       (λ (q : 3 * n ≤ j). let a = code-system n j q (omega arith) in noSystem (omega arith) (omega arith))
       (below-or-not j (3 * n)))
 
--- ---- ranges
-recipe-range : (r u : ℕ) → u < 3 → rangeOf (ofRecipe r u) ≡ range (getD (0 ∷ 8000 ∷ 1 ∷ []) u 0) (getD (10000 ∷ 12000 ∷ 9999 ∷ []) u 0)
-recipe-range r u h =
-    three (λ (v : ℕ). rangeOf (ofRecipe r v) ≡ range (getD (0 ∷ 8000 ∷ 1 ∷ []) v 0) (getD (10000 ∷ 12000 ∷ 9999 ∷ []) v 0)) u h refl refl refl
+-- ---- 02, L3: tens for the recipe and units for the kind
+
+-- the digits of a code
+digits-of : (n r u : ℕ) → 1 ≤ r → r ≤ n → u < 10 → byDigits n (10 * r + u) ≡ byUnits r u
+unfolding byDigits
+digits-of n r u l h b =
+    let t : (10 * r + u) / 10 ≡ r = omega arith in
+    let v : (10 * r + u) % 10 ≡ u = omega arith in
+    ap (λ (q : ℕ). pick (between 1 n q) (byUnits q ((10 * r + u) % 10)) digits.Nothing) t
+    ∙ (ap (λ (q : ℕ). pick (between 1 n r) (byUnits r q) digits.Nothing) v ∙ simp (between-yes 1 n r l h))
+
+digits-given : (n r : ℕ) (k : ParameterKind) → 1 ≤ r → r ≤ n → byDigits n (codeOf (ofRecipe r k)) ≡ digits.Of r k
+digits-given n r Share l h = digits-of n r 1 l h (omega arith)
+digits-given n r Factor l h = digits-of n r 2 l h (omega arith)
+digits-given n r LowFlow l h = digits-of n r 3 l h (omega arith)
+
+-- what the units name has them in its code
+units-listed : (q u r : ℕ) (k : ParameterKind) → byUnits q u ≡ digits.Of r k → (q ≡ r) × (u ≡ kindPlace k + 1)
+units-listed q u r k e = go (eqb u 1) (eqb u 2) (eqb u 3) refl refl refl e
+  where
+    go : (a b c : Bool) → eqb u 1 ≡ a → eqb u 2 ≡ b → eqb u 3 ≡ c
+        → pick a (digits.Of q Share) (pick b (digits.Of q Factor) (pick c (digits.Of q LowFlow) digits.Nothing)) ≡ digits.Of r k → (q ≡ r) × (u ≡ kindPlace k + 1)
+    go true b c t f g e = (cc, let z : kindPlace Share ≡ kindPlace k = cc in let w = eqb-true u 1 t in omega arith)
+    go false true c t f g e = (cc, let z : kindPlace Factor ≡ kindPlace k = cc in let w = eqb-true u 2 f in omega arith)
+    go false false true t f g e = (cc, let z : kindPlace LowFlow ≡ kindPlace k = cc in let w = eqb-true u 3 g in omega arith)
+    go false false false t f g e = let z : _≡_ {A = ℕ} 0 1 = cc in absurd (omega arith)
+
+digits-listed : (n c r : ℕ) (k : ParameterKind) → byDigits n c ≡ digits.Of r k → (1 ≤ r) × (r ≤ n) × (codeOf (ofRecipe r k) ≡ c)
+unfolding byDigits
+digits-listed n c r k e = go (between 1 n (c / 10)) refl e
+  where
+    go : (b : Bool) → between 1 n (c / 10) ≡ b → pick b (byUnits (c / 10) (c % 10)) digits.Nothing ≡ digits.Of r k
+        → (1 ≤ r) × (r ≤ n) × (codeOf (ofRecipe r k) ≡ c)
+    go true t e =
+        let l = between-low 1 n (c / 10) t in
+        let h = between-high 1 n (c / 10) t in
+        let p = units-listed (c / 10) (c % 10) r k e in
+        let q = p .0 in
+        let u = p .1 in
+        (omega arith, omega arith, recipe-code r k ∙ omega arith)
+    go false t e = let z : _≡_ {A = ℕ} 0 1 = cc in absurd (omega arith)
+
+module _ (n : ℕ) where
+  -- the range of a recipe's parameter is its kind's
+  pub range-recipe : (r : ℕ) (k : ParameterKind) → 1 ≤ r → r ≤ n → rangeIn (parametersFor n) (recipePlace r k) ≡ kindRange k
+  range-recipe r k l h =
+      let e = list-length n in
+      let b = kind-low k in
+      getD-map-below rangeOf (parametersFor n) (recipePlace r k) copies (range 0 0) (omega arith) ∙ ap rangeOf (at-recipe n r k l h)
+
+  module _ (few : n ≤ 79) (c : ℕ) where
+    place-digits : (p : RecipeParameter) → byDigits n c ≡ p → (801 ≤ c → c ≤ 808 → ⊥) → placeIn c (parametersFor n) ≡ digitsPlace p
+    place-digits (digits.Of r k) e other =
+        let h = digits-listed n c r k e in
+        ap (λ (x : ℕ). placeIn x (parametersFor n)) (sym (h .2)) ∙ place-recipe n few r k (h .0) (h .1)
+    place-digits digits.Nothing e other =
+        place-unlisted n few c
+        (λ r k l h q.
+        let g : digits.Nothing ≡ digits.Of r k = sym e ∙ (ap (byDigits n) (sym q) ∙ digits-given n r k l h) in
+        let z : _≡_ {A = ℕ} 0 1 = cc in absurd (omega arith)) other
+
+    -- "Show for every code": with up to 79 recipes the arithmetic of the code gives what 01 lists
+    pub every-code : Ruled n c
+    every-code =
+        record {
+          given = λ r k l h e. ap (byDigits n) (sym e) ∙ digits-given n r k l h;
+          listed = digits-listed n c;
+          same-place = by-test (between 801 808 c)
+              (λ t. place-system n few c (between-low 801 808 c t) (between-high 801 808 c t) ∙ simp t)
+              (λ t. place-digits (byDigits n c) refl (λ l h. false≢true (sym t ∙ between-yes 801 808 c l h)) ∙ simp t);
+          same-range = λ r k e. let h = digits-listed n c r k e in range-recipe r k (h .0) (h .1);
+        }
+
+-- 79 is the most: with one more, 801 would be listed twice
+pub no-more : Ruled 80 801 → ⊥
+unfolding placeIn
+no-more h = let e : _≡_ {A = ℕ} 237 240 = let p : At 237 ≡ At 240 = h .same-place in cc in absurd (omega arith)
 
 -- ---- the definitions that the contracts cite
-few : recipes ≤ 79
-few = omega arith
+pub ruled : (c : ℕ) → Ruled recipes c
+ruled = every-code recipes (omega arith)
 
 code-in-list : (i : ℕ) → i < parameterCount → codeAt i ≡ codeFor recipes i
 unfolding codeAt
@@ -159,10 +255,10 @@ range-in-list : (i : ℕ) → i < parameterCount → rangeAt i ≡ rangeOf (getD
 unfolding rangeAt
 range-in-list i h = getD-map-below rangeOf (parametersFor recipes) i copies (range 0 0) h
 
--- "Show for every code": a code has the place i exactly if the parameter there has the code
+-- a code has the place i exactly if the parameter there has the code
 pub place-has-code : (i : ℕ) → i < parameterCount → placeOf (codeAt i) ≡ At i
 unfolding placeOf
-place-has-code i h = ap (λ (c : ℕ). placeIn c (parametersFor recipes)) (code-in-list i h) ∙ place-of-code recipes few i h
+place-has-code i h = ap (λ (c : ℕ). placeIn c (parametersFor recipes)) (code-in-list i h) ∙ place-of-code recipes (omega arith) i h
 
 found-step : (c : ℕ) (p : Parameter) (ps : List Parameter) (i : ℕ) (b : Bool) (q : Place) → eqb (codeOf p) c ≡ b
     → ((j : ℕ) → q ≡ At j → (j < length ps) × (codeOf (getD ps j copies) ≡ c))
@@ -185,19 +281,28 @@ unfolding placeOf
 code-has-place c i e = let h = found-in c (parametersFor recipes) i e in (h .0, code-in-list i (h .0) ∙ h .1)
 
 -- the code's returns
-pub place-given-recipe : (c r n : ℕ) → 1 ≤ r → r ≤ recipes → 10 * r + 1 ≤ c → c ≤ 10 * r + 3 → n ≡ 3 * (r - 1) + (c - (10 * r + 1)) → At n ≡ placeOf c
-unfolding placeOf
-place-given-recipe c r n a b l h e = ap At e ∙ sym (place-recipe recipes few c r a b l h)
+module _ (c : ℕ) where
+  pub digits-outside : not (between 1 recipes (c / 10)) ≡ true → digits.Nothing ≡ byDigits recipes c
+  unfolding byDigits
+  digits-outside t = simp (not-true (between 1 recipes (c / 10)) t)
 
-pub place-given-system : (c n : ℕ) → 801 ≤ c → c ≤ 808 → n ≡ (c - 801) + 3 * recipes → At n ≡ placeOf c
-unfolding placeOf
-place-given-system c n l h e = ap At (omega arith) ∙ sym (place-system recipes few c l h)
+  module _ (t : not (between 1 recipes (c / 10)) ≡ false) where
+    pub digits-inside : (p : RecipeParameter) → p ≡ byUnits (c / 10) (c % 10) → p ≡ byDigits recipes c
+    unfolding byDigits
+    digits-inside p e = e ∙ simp (not-false (between 1 recipes (c / 10)) t)
 
-pub place-not-given : (c : ℕ) → ((r : ℕ) → 1 ≤ r → r ≤ recipes → 10 * r + 1 ≤ c → c ≤ 10 * r + 3 → ⊥) → (801 ≤ c → c ≤ 808 → ⊥) → Nothing ≡ placeOf c
-unfolding placeOf
-place-not-given c g h = sym (place-unlisted recipes few c g h)
+    pub digits-none : (c % 10 ≡ 1 → ⊥) → (c % 10 ≡ 2 → ⊥) → (c % 10 ≡ 3 → ⊥) → digits.Nothing ≡ byDigits recipes c
+    digits-none x y z = digits-inside digits.Nothing (simp (ne-eqb (c % 10) 1 x, ne-eqb (c % 10) 2 y, ne-eqb (c % 10) 3 z))
 
-pub code-given-recipe : (i : ℕ) → i < 3 * recipes → 10 * (i / 3 + 1) + i % 3 + 1 ≡ codeAt i
+pub place-given-digits : (c : ℕ) (p : RecipeParameter) → p ≡ byDigits recipes c → (801 ≤ c → c ≤ 808 → ⊥) → digitsPlace p ≡ placeOf c
+unfolding placeOf
+place-given-digits c p e other = ap digitsPlace e ∙ sym (ruled c .same-place ∙ simp (between-no 801 808 c other))
+
+pub place-given-system : (c n : ℕ) → 801 ≤ c → c ≤ 808 → n ≡ 3 * recipes + (c - 801) → At n ≡ placeOf c
+unfolding placeOf
+place-given-system c n l h e = ap At e ∙ sym (ruled c .same-place ∙ simp (between-yes 801 808 c l h))
+
+pub code-given-recipe : (i : ℕ) → i < 3 * recipes → 10 * (i / 3 + 1) + (i % 3 + 1) ≡ codeAt i
 code-given-recipe i h = sym (code-in-list i (omega arith) ∙ code-recipe recipes i h)
 
 pub code-given-system : (i : ℕ) → 3 * recipes ≤ i → i < parameterCount → 801 + (i - 3 * recipes) ≡ codeAt i
@@ -207,15 +312,22 @@ pub code-beyond : (i : ℕ) → parameterCount ≤ i → 0 ≡ codeAt i
 unfolding codeAt
 code-beyond i h = sym (List·getD-eq-default (map codeOf (parametersFor recipes)) 0 h)
 
-pub range-given-recipe : (i : ℕ) → i < 3 * recipes → range (getD (0 ∷ 8000 ∷ 1 ∷ []) (i % 3) 0) (getD (10000 ∷ 12000 ∷ 9999 ∷ []) (i % 3) 0) ≡ rangeAt i
-range-given-recipe i h = sym (range-in-list i (omega arith) ∙ (ap rangeOf (at-recipe recipes i h) ∙ recipe-range (i / 3 + 1) (i % 3) (omega arith)))
+pub range-given-kind : (r : ℕ) (k : ParameterKind) → 1 ≤ r → r ≤ recipes → kindRange k ≡ rangeAt (recipePlace r k)
+unfolding rangeAt
+range-given-kind r k l h = sym (range-recipe recipes r k l h)
+
+module _ (i : ℕ) (h : i < 3 * recipes) where
+  pub range-given-recipe : (u : ℕ) → i % 3 ≡ u → kindRange (getD kinds u LowFlow) ≡ rangeAt i
+  range-given-recipe u e =
+      ap (λ (v : ℕ). kindRange (getD kinds v LowFlow)) (sym e) ∙ (range-given-kind (i / 3 + 1) (kindAt i) (omega arith) (omega arith) ∙ ap rangeAt (place-split i))
+
+  pub range-given-third : (i % 3 ≡ 0 → ⊥) → (i % 3 ≡ 1 → ⊥) → kindRange LowFlow ≡ rangeAt i
+  range-given-third a b = range-given-recipe 2 (omega arith)
 
 -- each recipe has the ranges of the first
 pub range-repeats : (i u : ℕ) → i < recipes → u < 3 → rangeAt (3 * i + u) ≡ rangeAt u
 range-repeats i u h l =
-    let e : (3 * i + u) % 3 ≡ u % 3 = omega arith in
-    sym (range-given-recipe (3 * i + u) (omega arith)) ∙
-    (ap (λ (v : ℕ). range (getD (0 ∷ 8000 ∷ 1 ∷ []) v 0) (getD (10000 ∷ 12000 ∷ 9999 ∷ []) v 0)) e ∙ range-given-recipe u (omega arith))
+    sym (range-given-recipe (3 * i + u) (omega arith) u (omega arith)) ∙ range-given-recipe u (omega arith) u (omega arith)
 
 -- the tables of the system's ranges are those of its parameters
 pub range-given-system : (i : ℕ) → 3 * recipes ≤ i → i < parameterCount

@@ -1,5 +1,5 @@
 -- Validity, field by field. Assumes nothing.
-use Prim.Native.Nat.{ℕ, zero, suc, _+_, _*_, _≤_, _<_}
+use Prim.Native.Nat.{ℕ, zero, suc, _+_, _-_, _*_, _≤_, _<_}
 use mathlib.Core.Bool.{Bool, true, false, not, _&&_, false≢true, and-true, and-assoc}
 use mathlib.Core.Path.{_≡_, refl, sym, ap, _∙_, subst}
 use mathlib.Core.List.{List, [], _∷_, _++_}
@@ -12,14 +12,16 @@ use lib.ListN.{length, getD}
 use borrow.Author.Tests.{eq-eqb, eqb-true, le-leb, not-true, not-false}
 use Rattle.state.specs.declared.Phase.{Phase}
 use Rattle.state.specs.declared.Phase.the-variants.{Idle, Set, Running, Stopped, Done}
+use Rattle.state.specs.declared.ParameterKind.{ParameterKind}
+use Rattle.state.specs.declared.ParameterKind.the-variants.{Share, Factor, LowFlow}
 use Rattle.state.specs.declared.Record.{Record}
 use Rattle.state.specs.declared.Range.{Range}
 use Rattle.base.specs.Test.{between, allBetween}
-use Rattle.state.specs.Parameter.{recipes, parameterCount, rangeAt}
+use Rattle.state.specs.Parameter.{recipes, kindRange, parameterCount, rangeAt, recipePlace}
 use Rattle.state.specs.Field.{Field, address, access, phase, recipe, preset, raw, number, alarms, value, level, get, fieldRange, position, scalarFields, fieldsFor, parameterFields, phaseNumber, flagNumber, on}
 use Rattle.state.specs.Valid.{within, allIn, fullLength, valid}
 use Rattle.base.proofs.Tests.{and-yes, and-left, and-right, between-high}
-use Rattle.state.proofs.Parameters.{range-repeats}
+use Rattle.state.proofs.Parameters.{kind-low, range-given-kind}
 
 flag-high : (b : Bool) → leb (flagNumber b) on ≡ true
 flag-high true = refl
@@ -193,18 +195,25 @@ value-more r p v h =
           ⊎-elim (λ (q : i ≡ p). ap (valueIn r) q ∙ h) (λ (q : i < p). v .each i q) (eq-or-lt-of-le (omega arith));
     }
 
-pub values-more : (r : Record) (p : ℕ) (b : Bool) → ValuesIn r p → b ≡ within (rangeAt p) (getD (r .values) p 0) → not b ≡ false → ValuesIn r (p + 1)
-values-more r p b v e n = value-more r p v (sym e ∙ not-false b n)
+module _ (r : Record) (p : ℕ) (g : Range) (b : Bool) (q : g ≡ rangeAt p) (e : b ≡ within g (getD (r .values) p 0)) where
+  by-place : b ≡ valueIn r p
+  by-place = e ∙ ap (λ (w : Range). within w (getD (r .values) p 0)) q
 
--- those of the first n recipes
+  pub values-more : ValuesIn r p → not b ≡ false → ValuesIn r (p + 1)
+  values-more v n = value-more r p v (sym by-place ∙ not-false b n)
+
+  pub not-valid-value : not b ≡ true → p < parameterCount → false ≡ valid r
+  not-valid-value n l = decided (valid r) (λ h. false≢true (sym (not-true b n) ∙ (by-place ∙ value-valid r h p l)))
+
+-- those of the recipes before n
 pub record RecipesIn (r : Record) (n : ℕ) : Type 0 where
-  pub places : ValuesIn r (3 * n)
+  pub places : ValuesIn r (3 * (n - 1))
 
-pub recipes-none : (r : Record) → RecipesIn r 0
+pub recipes-none : (r : Record) → RecipesIn r 1
 recipes-none r = record { places = record { each = λ i h. absurd (omega arith) } }
 
-pub recipes-all : (r : Record) (i : ℕ) → recipes ≤ i → RecipesIn r i → ValuesIn r (3 * recipes)
-recipes-all r i h v = record { each = λ j l. v .places .each j (omega arith) }
+pub recipes-all : (r : Record) (n : ℕ) → recipes < n → RecipesIn r n → ValuesIn r (3 * recipes)
+recipes-all r n h v = record { each = λ j l. v .places .each j (omega arith) }
 
 -- three tests in turn
 module _ (a x : Bool) (e : a ≡ x) where
@@ -218,40 +227,36 @@ module _ (a x : Bool) (e : a ≡ x) where
     pub third-tells : (c z : Bool) → not b ≡ false → c ≡ z → c ≡ (x && (y && z))
     third-tells c z m g = g ∙ simp (sym e ∙ not-false a n, sym f ∙ not-false b m)
 
--- the three values of a recipe, by the ranges of the first
-module _ (r : Record) (i : ℕ) (b : Bool) (below : i < recipes)
-    (e : b ≡ (within (rangeAt 0) (getD (r .values) (3 * i) 0) && (within (rangeAt 1) (getD (r .values) (3 * i + 1) 0) && within (rangeAt 2) (getD (r .values) (3 * i + 2) 0)))) where
-  is-first : (u : ℕ) → u < 3 → within (rangeAt u) (getD (r .values) (3 * i + u) 0) ≡ valueIn r (3 * i + u)
-  is-first u l = ap (λ (g : Range). within g (getD (r .values) (3 * i + u) 0)) (sym (range-repeats i u below l))
+-- the value at place i, for the kind k
+abbrev kindIn : Record → ℕ → ParameterKind → Bool
+kindIn r i k = within (kindRange k) (getD (r .values) i 0)
 
-  by-values : b ≡ (valueIn r (3 * i) && (valueIn r (3 * i + 1) && valueIn r (3 * i + 2)))
-  by-values =
-      let z : 3 * i + 0 ≡ 3 * i = omega arith in
-      let s : within (rangeAt 0) (getD (r .values) (3 * i) 0) ≡ valueIn r (3 * i) = subst (λ (j : ℕ). within (rangeAt 0) (getD (r .values) j 0) ≡ valueIn r j) z (is-first 0 (omega arith)) in
-      let f = is-first 1 (omega arith) in
-      let l = is-first 2 (omega arith) in
-      e ∙ simp (s, f, l)
+-- the three values of a recipe
+module _ (r : Record) (n i j l : ℕ) (b : Bool) (first : i ≡ recipePlace n Share) (second : j ≡ recipePlace n Factor) (third : l ≡ recipePlace n LowFlow)
+    (above : 1 ≤ n) (below : n ≤ recipes) (e : b ≡ (kindIn r i Share && (kindIn r j Factor && kindIn r l LowFlow))) where
+  kind-value : (i : ℕ) (k : ParameterKind) → i ≡ recipePlace n k → kindIn r i k ≡ valueIn r i
+  kind-value i k q = ap (λ (g : Range). within g (getD (r .values) i 0)) (range-given-kind n k above below ∙ ap rangeAt (sym q))
 
-  pub recipe-more : not b ≡ false → RecipesIn r i → RecipesIn r (i + 1)
-  recipe-more n v =
-      let all : (valueIn r (3 * i) && (valueIn r (3 * i + 1) && valueIn r (3 * i + 2))) ≡ true = sym by-values ∙ not-false b n in
-      let rest : (valueIn r (3 * i + 1) && valueIn r (3 * i + 2)) ≡ true = and-right (valueIn r (3 * i)) _ all in
-      let o : 3 * i + 1 + 1 ≡ 3 * i + 2 = omega arith in
-      let t : 3 * i + 2 + 1 ≡ 3 * (i + 1) = omega arith in
-      let one : ValuesIn r (3 * i + 1) = value-more r (3 * i) (v .places) (and-left (valueIn r (3 * i)) _ all) in
-      let two : ValuesIn r (3 * i + 2) = subst (ValuesIn r) o (value-more r (3 * i + 1) one (and-left (valueIn r (3 * i + 1)) _ rest)) in
-      record { places = subst (ValuesIn r) t (value-more r (3 * i + 2) two (and-right (valueIn r (3 * i + 1)) _ rest)) }
+  pub recipe-more : not b ≡ false → RecipesIn r n → RecipesIn r (n + 1)
+  recipe-more h v =
+      let all : (kindIn r i Share && (kindIn r j Factor && kindIn r l LowFlow)) ≡ true = sym e ∙ not-false b h in
+      let rest : (kindIn r j Factor && kindIn r l LowFlow) ≡ true = and-right (kindIn r i Share) _ all in
+      let a : 3 * (n - 1) ≡ i = omega arith in
+      let c : i + 1 ≡ j = omega arith in
+      let d : j + 1 ≡ l = omega arith in
+      let f : l + 1 ≡ 3 * (n + 1 - 1) = omega arith in
+      let one = value-more r i (subst (ValuesIn r) a (v .places)) (sym (kind-value i Share first) ∙ and-left (kindIn r i Share) _ all) in
+      let two = value-more r j (subst (ValuesIn r) c one) (sym (kind-value j Factor second) ∙ and-left (kindIn r j Factor) _ rest) in
+      let three = value-more r l (subst (ValuesIn r) d two) (sym (kind-value l LowFlow third) ∙ and-right (kindIn r j Factor) _ rest) in
+      record { places = subst (ValuesIn r) f three }
 
   pub not-valid-recipe : not b ≡ true → false ≡ valid r
-  not-valid-recipe n =
+  not-valid-recipe h =
       decided (valid r)
-      (λ h.
-      let at : (j : ℕ) → j < parameterCount → valueIn r j ≡ true = value-valid r h in
-      false≢true (sym (not-true b n) ∙ (by-values ∙ and-yes (valueIn r (3 * i)) _ (at (3 * i) (omega arith))
-      (and-yes (valueIn r (3 * i + 1)) _ (at (3 * i + 1) (omega arith)) (at (3 * i + 2) (omega arith))))))
-
-pub not-valid-value : (r : Record) (p : ℕ) (b : Bool) → b ≡ within (rangeAt p) (getD (r .values) p 0) → not b ≡ true → p < parameterCount → false ≡ valid r
-not-valid-value r p b e n l = decided (valid r) (λ h. false≢true (sym (not-true b n) ∙ (e ∙ value-valid r h p l)))
+      (λ v.
+      let at : (i : ℕ) (k : ParameterKind) → i ≡ recipePlace n k → kindIn r i k ≡ true =
+      λ i k q. kind-value i k q ∙ value-valid r v i (let low = kind-low k in omega arith) in
+      false≢true (sym (not-true b h) ∙ (e ∙ and-yes (kindIn r i Share) _ (at i Share first) (and-yes (kindIn r j Factor) _ (at j Factor second) (at l LowFlow third)))))
 
 pub not-valid-levels : (r : Record) (b : Bool) → b ≡ allBetween lowLevel highLevel (r .levels) → not b ≡ true → false ≡ valid r
 not-valid-levels r b e n =

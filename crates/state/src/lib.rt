@@ -3,7 +3,7 @@ ghost use mathlib.Core.Path.{_≡_};
 ghost use mathlib.Core.Bool.{_&&_};
 ghost use Prim.Native.Nat.{_%_, _≤_};
 ghost use Rattle.base.specs.Test.{pick};
-ghost use Rattle.state.specs.Parameter.{codeAt, rangeAt, placeOf};
+ghost use Rattle.state.specs.Parameter.{recipes, codeAt, kindRange, rangeAt, kindPlace, recipePlace, byDigits, placeOf};
 ghost use Rattle.state.specs.Alarm.{allAlarms, isAlarm, weightOf, lasting};
 ghost use Rattle.state.specs.Field.{Field, get, put, phaseNumber, scalarFields};
 ghost use Rattle.state.specs.Valid.{within, allIn, valid};
@@ -14,6 +14,19 @@ pub const RECIPES: usize = 8;
 
 // Three parameters a recipe, and the system's eight.
 pub const PARAMETERS: usize = 3 * RECIPES + 8;
+
+// What a parameter of a recipe is.
+pub enum ParameterKind {
+    Share,
+    Factor,
+    LowFlow,
+}
+
+// A recipe's parameter, by the recipe's number and its kind.
+enum RecipeParameter {
+    Of(u16, ParameterKind),
+    Nothing,
+}
 
 pub enum Phase {
     Idle,
@@ -35,7 +48,7 @@ pub struct Range {
     pub high: u32,
 }
 
-// ---- the range of each field but the parameters' values
+// ---- the range of each field but the system's parameters
 pub const ADDRESS_RANGE: Range = Range { low: 1, high: 99 };
 
 pub const ACCESS_RANGE: Range = Range { low: 0, high: 3 };
@@ -46,6 +59,10 @@ pub const RECIPE_RANGE: Range = Range {
     low: 1,
     high: RECIPES as u32,
 };
+
+const FIRST_RECIPE: u16 = RECIPE_RANGE.low as u16;
+
+const LAST_RECIPE: u16 = RECIPE_RANGE.high as u16;
 
 pub const PRESET_RANGE: Range = Range {
     low: 0,
@@ -68,6 +85,19 @@ pub const ALARMS_RANGE: Range = Range {
     low: 0,
     high: 524287,
 };
+
+// Those of a recipe's parameters.
+pub const SHARE_RANGE: Range = Range {
+    low: 0,
+    high: 10000,
+};
+
+pub const FACTOR_RANGE: Range = Range {
+    low: 8000,
+    high: 12000,
+};
+
+pub const LOW_FLOW_RANGE: Range = Range { low: 1, high: 9999 };
 
 pub const LEVEL_RANGE: Range = Range { low: 0, high: 3 };
 
@@ -137,21 +167,55 @@ pub fn phase_number(p: Phase) -> u8
 
 // ---- parameters
 
+// What a recipe's code names, tens for the recipe and units for the kind: 10r+1 share, 10r+2 factor, 10r+3 low flow.
+fn by_digits(code: u16) -> RecipeParameter
+    ensures { λ p. ⌜ p ≡ byDigits recipes code ⌝ }
+{
+    let recipe = code / 10;
+    if !((FIRST_RECIPE <= recipe) & (recipe <= LAST_RECIPE)) {
+        return RecipeParameter::Nothing;
+    }
+    match code % 10 {
+        1 => RecipeParameter::Of(recipe, ParameterKind::Share),
+        2 => RecipeParameter::Of(recipe, ParameterKind::Factor),
+        3 => RecipeParameter::Of(recipe, ParameterKind::LowFlow),
+        _ => RecipeParameter::Nothing,
+    }
+}
+
+// The place of a kind among a recipe's three.
+fn kind_place(kind: ParameterKind) -> usize
+    ensures { λ i. ⌜ i ≡ kindPlace kind ⌝ }
+{
+    match kind {
+        ParameterKind::Share => 0,
+        ParameterKind::Factor => 1,
+        ParameterKind::LowFlow => 2,
+    }
+}
+
+// The place of a recipe's parameter; there is no recipe 0, and it counts as 1.
+pub fn recipe_place(recipe: u16, kind: ParameterKind) -> usize
+    ensures { λ i. ⌜ i ≡ recipePlace recipe kind ⌝ }
+{
+    if recipe == 0 {
+        return kind_place(kind);
+    }
+    3 * (recipe as usize - 1) + kind_place(kind)
+}
+
 // The place of the parameter with a code.
 pub fn place_of(code: u16) -> Place
     ensures { λ p. ⌜ p ≡ placeOf code ⌝ }
 {
     match code {
-        11..=13 => Place::At((code - 11) as usize),
-        21..=23 => Place::At((code - 21) as usize + 3),
-        31..=33 => Place::At((code - 31) as usize + 6),
-        41..=43 => Place::At((code - 41) as usize + 9),
-        51..=53 => Place::At((code - 51) as usize + 12),
-        61..=63 => Place::At((code - 61) as usize + 15),
-        71..=73 => Place::At((code - 71) as usize + 18),
-        81..=83 => Place::At((code - 81) as usize + 21),
-        801..=808 => Place::At((code - 801) as usize + 3 * RECIPES),
-        _ => Place::Nothing,
+        801..=808 => Place::At(3 * RECIPES + (code - 801) as usize),
+        _ => {
+            let RecipeParameter::Of(recipe, kind) = by_digits(code) else {
+                return Place::Nothing;
+            };
+            Place::At(recipe_place(recipe, kind))
+        }
     }
 }
 
@@ -160,18 +224,15 @@ pub fn code_at(place: usize) -> u16
     ensures { λ c. ⌜ c ≡ codeAt place ⌝ }
 {
     if place < 3 * RECIPES {
-        return (10 * (place / 3 + 1) + place % 3 + 1) as u16;
+        let recipe = place / 3 + 1;
+        let units = place % 3 + 1;
+        return (10 * recipe + units) as u16;
     }
     if place < PARAMETERS {
         return (801 + (place - 3 * RECIPES)) as u16;
     }
     0
 }
-
-// Share, factor and low flow.
-const RECIPE_LOWS: [u32; 3] = [0, 8000, 1];
-
-const RECIPE_HIGHS: [u32; 3] = [10000, 12000, 9999];
 
 // 801 to 808.
 const SYSTEM_LOWS: [u32; 8] = [0, 0, 0, 1, 0, 0, 1, 0];
@@ -182,42 +243,41 @@ const SYSTEM_HIGHS: [u32; 8] = [99, 999, 9999, 9999, 3, 1, 99999, 9];
 pub fn range_at(place: usize) -> Range
     ensures { λ r. ⌜ r ≡ rangeAt place ⌝ }
 {
-    if place < 3 * RECIPES {
-        let kind = place % 3;
-        return Range {
-            low: RECIPE_LOWS[kind],
-            high: RECIPE_HIGHS[kind],
-        };
+    if PARAMETERS <= place {
+        return Range { low: 0, high: 0 };
     }
-    if place < PARAMETERS {
+    if 3 * RECIPES <= place {
         let row = place - 3 * RECIPES;
         return Range {
             low: SYSTEM_LOWS[row],
             high: SYSTEM_HIGHS[row],
         };
     }
-    Range { low: 0, high: 0 }
+    match place % 3 {
+        0 => SHARE_RANGE,
+        1 => FACTOR_RANGE,
+        _ => LOW_FLOW_RANGE,
+    }
 }
 
-// The value is in the range of the parameter at a place.
-fn value_valid(place: usize, value: u32) -> bool
-    ensures { λ b. ⌜ b ≡ within (rangeAt place) value ⌝ }
+// The number is in the range.
+fn within(range: Range, n: u32) -> bool
+    ensures { λ b. ⌜ b ≡ within range n ⌝ }
 {
-    let range = range_at(place);
-    base::is_between(range.low, range.high, value)
+    base::is_between(range.low, range.high, n)
 }
 
-// The values of a recipe are in their ranges: each recipe has those of the first.
+// The values of a recipe are in the ranges of their kinds.
 fn recipe_valid(share: u32, factor: u32, flow: u32) -> bool
-    ensures { λ b. ⌜ b ≡ (within (rangeAt 0) share && (within (rangeAt 1) factor && within (rangeAt 2) flow)) ⌝ }
+    ensures { λ b. ⌜ b ≡ (within (kindRange ParameterKind.Share) share && (within (kindRange ParameterKind.Factor) factor && within (kindRange ParameterKind.LowFlow) flow)) ⌝ }
 {
-    if !value_valid(0, share) {
+    if !within(SHARE_RANGE, share) {
         return false;
     }
-    if !value_valid(1, factor) {
+    if !within(FACTOR_RANGE, factor) {
         return false;
     }
-    value_valid(2, flow)
+    within(LOW_FLOW_RANGE, flow)
 }
 
 // The batch number after n.
@@ -296,20 +356,20 @@ impl Record {
         if !base::all_between(LOW_LEVEL, HIGH_LEVEL, &levels) {
             return false;
         }
-        let mut i = 0;
-        while i < RECIPES {
+        let mut recipe = FIRST_RECIPE;
+        while recipe <= LAST_RECIPE {
             if !recipe_valid(
-                self.values[3 * i],
-                self.values[3 * i + 1],
-                self.values[3 * i + 2],
+                self.values[recipe_place(recipe, ParameterKind::Share)],
+                self.values[recipe_place(recipe, ParameterKind::Factor)],
+                self.values[recipe_place(recipe, ParameterKind::LowFlow)],
             ) {
                 return false;
             }
-            i += 1;
+            recipe += 1;
         }
         let mut place = 3 * RECIPES;
         while place < PARAMETERS {
-            if !value_valid(place, self.values[place]) {
+            if !within(range_at(place), self.values[place]) {
                 return false;
             }
             place += 1;

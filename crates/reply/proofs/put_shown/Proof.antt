@@ -33,8 +33,8 @@ returns-5 : tie.Need-returns-5
 unfolding rowOf
 returns-5 c =
     let v = c .before .before .before .before in
-    shown _ _ _ _ _ _ _ (v .before .before .before .before .enum-told5 .given .1)
-    (composition-laid (v .before .before .before .before .before .before .before .args .r) _ _ _ _ _ _ (v .before .factor-place .ensures) (v .value-at .ensures) (c .before .before .put-two .ensures))
+    shown _ _ _ _ _ _ _ (v .before .before .before .before .before .enum-told5 .given .1)
+    (composition-laid (v .before .before .before .before .before .before .before .before .args .r) _ _ _ _ _ _ (v .before .recipe-place .ensures) (v .value-at .ensures) (c .before .before .put-two .ensures))
 
 returns-6 : tie.Need-returns-6
 unfolding rowOf
@@ -76,6 +76,7 @@ put-shown-spec =
     (λ c. search needs)
     (λ c. search needs)
     (λ c κs. search needs)
+    (λ c. search needs)
     (λ c. search needs)
     (λ c. search needs)
     (λ c. search needs)

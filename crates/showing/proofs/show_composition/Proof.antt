@@ -1,6 +1,6 @@
 -- `showing::show_composition` meets its contract: one law of `Telling` for each return. Assumes nothing.
 use borrow.Author.Needs.{needs}
-use Rattle.showing.proofs.Telling.{recipe-low, recipe-read}
+use Rattle.showing.proofs.Telling.{recipe-small, recipe-read}
 use Rattle.showing.proofs.show_composition.Statement.{statement}
 use Rattle.showing.proofs.show_composition.Tie as tie
 
@@ -22,14 +22,12 @@ show-composition-spec =
     (λ c κs. search needs)
     (λ c κs. search needs)
     (λ c. search recipe-read)
-    (λ c. search needs)
-    (λ c. search needs)
-    (λ c. search recipe-low)
+    (λ c. search recipe-small)
     (λ c κs. search needs)
     (λ c κs. search needs)
-    (λ c. search needs)
-    (λ c. search needs)
     (λ c κs. search needs)
+    (λ c. search needs)
+    (λ c. search needs)
     (λ c. search needs)
     (λ c. search needs)
     (λ c. search needs)

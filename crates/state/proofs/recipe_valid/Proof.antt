@@ -1,6 +1,6 @@
 -- `state::recipe_valid` meets its contract: the three tests in turn. Assumes nothing.
-use borrow.Author.Needs.{needs}
 use Rattle.state.proofs.Validity.{first-no, second-no, third-tells}
+use borrow.Author.Needs.{needs}
 use Rattle.state.proofs.recipe_valid.Statement.{statement}
 use Rattle.state.proofs.recipe_valid.Tie as tie
 
