@@ -1,7 +1,7 @@
 -- What a text asks for is sound: its code stands in the table and its arguments fit, so that what an accepted request changes fits the record.
 -- One line for a command. Assumes nothing.
 use Prim.Native.Nat.{ℕ, _^_, _≤_, _<_}
-use mathlib.Core.Bool.{Bool, true, false, not, _&&_, _||_, false≢true, or-false}
+use mathlib.Core.Bool.{Bool, true, false, not, _&&_, false≢true, or-false}
 use mathlib.Core.Path.{_≡_, refl, sym, ap, subst, _∙_}
 use mathlib.Core.List.{List, [], _∷_, map}
 use native.Mathlib.Nat.{pow-le-pow-right}
@@ -15,7 +15,7 @@ use Rattle.base.specs.Text.{text}
 use Rattle.state.specs.Parameter.{parameterCount, rangeAt}
 use Rattle.state.specs.Field.{reset, changed, recipe, preset, level, fieldRange, off}
 use Rattle.state.specs.Valid.{within}
-use Rattle.base.proofs.Tests.{by-test, and-left, and-right, between-yes, between-high}
+use Rattle.base.proofs.Tests.{by-test, and-left, and-right, neither, between-yes, between-high}
 use Rattle.text.specs.Word.{space, valueOf, allDigits, equal}
 use Rattle.command.specs.Commands.{PV, XV, PC, XC, NR, SB, codeIn, Command, Arguments, aNumber, formed, digitsBetween, commands, rowOf, _≔_}
 use Rattle.command.specs.Refusals.{Row, byText, byArguments, byField, rowNumber, refusals, of, argumentsFor, unknownCode, notServed, malformed, listed, unknownParameter, unknownRecipe, outOfRange}
@@ -88,10 +88,6 @@ passed false n v e = (refl, e)
 told : (b t : Bool) → (b && t) ≡ false → b ≡ true → t ≡ false
 told true t e h = e
 told false t e h = let z : _≡_ {A = ℕ} 0 1 = cc in absurd (omega arith)
-
-neither : (a b : Bool) → (a || b) ≡ false → (a ≡ false) × (b ≡ false)
-neither true b e = let z : _≡_ {A = ℕ} 0 1 = cc in absurd (omega arith)
-neither false b e = (refl, e)
 
 shaped-so : (a b : Bool) → (a && not b) ≡ false → b ≡ false → a ≡ false
 shaped-so true b p q = absurd (false≢true (sym p ∙ ap (λ (z : Bool). not z) q))

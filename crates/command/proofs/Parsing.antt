@@ -311,7 +311,7 @@ module _ (i n : ℕ) where
   nowhere-asked k o h = simp (o, le-ltb i parameterCount h)
 
   module _ (l : i < parameterCount) where
-    module _ (g : Range) (b : Bool) (e : g ≡ rangeAt i) (t : b ≡ between (g .low) (g .high) n) where
+    module _ (g : Range) (b : Bool) (e : g ≡ rangeAt i) (t : b ≡ within g n) where
       inside : b ≡ within (rangeAt i) n
       inside = t ∙ ap (λ (x : Range). within x n) e
 

@@ -1,6 +1,5 @@
 // A request's text as a value, what refuses it, and what it changes.
 use base::is_among;
-use base::is_between;
 use base::wide;
 use state::DONE;
 use state::IDLE;
@@ -13,6 +12,7 @@ use state::Record;
 use state::SET;
 use state::STOPPED;
 use state::place_of;
+use state::within;
 use text::Digits;
 use text::is_word;
 use text::read_number;
@@ -329,8 +329,7 @@ pub fn ask_value(place: usize, value: u32) -> Request
     if PARAMETERS <= place {
         return Request::Refused(Refusal::UnknownParameter);
     }
-    let range = state::range_at(place);
-    if is_between(range.low, range.high, value) {
+    if within(state::range_at(place), value) {
         return Request::Write(Writing::SetValue(place, value));
     }
     Request::Refused(Refusal::Range)
@@ -353,7 +352,7 @@ fn ask_level(place: usize, level: u32) -> Request
 fn ask_recipe(recipe: u32) -> Request
     ensures { λ r. ⌜ requestAs r ≡ askedWith NR (aPlace 0 recipe) ⌝ }
 {
-    if is_between(RECIPE_RANGE.low, RECIPE_RANGE.high, recipe) {
+    if within(RECIPE_RANGE, recipe) {
         return Request::Write(Writing::SelectRecipe(recipe as u8));
     }
     Request::Refused(Refusal::UnknownRecipe)

@@ -1,10 +1,10 @@
 // What is known of a controller's record: one set for each field, as a code at the field's position.
-use base::is_between;
 use state::ALARMS_RANGE;
 use state::NUMBER_RANGE;
 use state::PARAMETERS;
 use state::RECIPE_RANGE;
 use state::Range;
+use state::within;
 ghost use mathlib.Core.Path.{_≡_};
 ghost use Prim.Native.Nat.{_≤_};
 ghost use Rattle.state.specs.Alarm.{allAlarms};
@@ -225,7 +225,7 @@ impl Knowledge {
     pub fn tell(self, at: usize, range: Range, n: u32) -> Knowledge
         ensures { λ k. ⌜ k ≡ told at range n self ⌝ }
     {
-        if !is_between(range.low, range.high, n) {
+        if !within(range, n) {
             return self.refuted();
         }
         let code = self.code(at);

@@ -160,11 +160,11 @@ fn move_on(k: Knowledge, request: Writing) -> Knowledge
     match request {
         Writing::SetValue(place, value) => k.set_value(VALUES + offset(place), value),
         Writing::SetLevel(place, level) => {
-            let only = alone(LEVEL_RANGE.low, LEVEL_RANGE.high, level as u32);
+            let only = alone(LEVEL_RANGE, level as u32);
             k.put(LEVELS + offset(place), only)
         }
         Writing::SelectRecipe(recipe) => {
-            let only = alone(RECIPE_RANGE.low, RECIPE_RANGE.high, recipe as u32);
+            let only = alone(RECIPE_RANGE, recipe as u32);
             k.put(RECIPE, only)
         }
         Writing::SetBatch(preset) => {

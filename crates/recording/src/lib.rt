@@ -1,8 +1,8 @@
 // Recordings, version 1: their form.
-use base::is_between;
 use base::wide;
 use state::ACCESS_RANGE;
 use state::ADDRESS_RANGE;
+use state::within;
 ghost use mathlib.Core.Path.{_≡_};
 ghost use Prim.Native.Nat.{_≤_};
 ghost use lib.ListN.{length, drop};
@@ -130,7 +130,7 @@ pub fn read_recording(s: &[u8]) -> Read
     }
     let address = s[3];
     let access = s[4];
-    if !is_between(ADDRESS_RANGE.low, ADDRESS_RANGE.high, wide(address)) {
+    if !within(ADDRESS_RANGE, wide(address)) {
         return Read::Refused(Refusal::Header);
     }
     if HIGH_ACCESS < access {

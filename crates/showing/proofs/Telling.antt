@@ -8,7 +8,6 @@ use lib.Dec.{eqb}
 use lib.ListN.{length, take, drop, length-take, length-drop}
 use lib.Seq.{take-all}
 use borrow.Author.Tests.{ne-eqb, not-true, not-false, eqb-true}
-use Rattle.base.specs.Test.{between}
 use Rattle.base.proofs.Tests.{holds-below, between-low, between-high}
 use Rattle.base.specs.Text.{text}
 use Rattle.state.specs.Field.{recipe, value, level, position, fieldRange, flagNumber}
@@ -53,22 +52,22 @@ each : (n : ℕ) → n ≤ recipes → shifted n ≡ maskOf (λ i. eqb i n)
 unfolding maskFrom
 each n h = eqb-true (shifted n) _ (holds-below (λ m. eqb (shifted m) (maskOf (λ i. eqb i m))) (recipes + 1) refl n (omega arith))
 
-module _ (low high n : ℕ) (b : Bool) (e : b ≡ between low high n) where
+module _ (g : Range) (n : ℕ) (b : Bool) (e : b ≡ within g n) where
   -- the range is tested at n
-  alone-as : (q : ℕ → Bool) → ((k : ℕ) → k < recipes + 1 → (b && eqb k n) ≡ q k) → maskOf q ≡ maskOf (λ i. between low high i && eqb i n)
-  alone-as q h = sym (mask-same (λ i. between low high i && eqb i n) q (recipes + 1) 0 (λ k l u. go k (eqb k n) refl ∙ h k u))
+  alone-as : (q : ℕ → Bool) → ((k : ℕ) → k < recipes + 1 → (b && eqb k n) ≡ q k) → maskOf q ≡ maskOf (λ i. within g i && eqb i n)
+  alone-as q h = sym (mask-same (λ i. within g i && eqb i n) q (recipes + 1) 0 (λ k l u. go k (eqb k n) refl ∙ h k u))
     where
-      go : (k : ℕ) (t : Bool) → eqb k n ≡ t → (between low high k && eqb k n) ≡ (b && eqb k n)
-      go k true z = ap (λ (m : ℕ). between low high m && eqb k n) (eqb-true k n z) ∙ ap (λ (t : Bool). t && eqb k n) (sym e)
-      go k false z = ap (λ (t : Bool). between low high k && t) z ∙ and-false (between low high k) ∙ sym (and-false b) ∙ ap (λ (t : Bool). b && t) (sym z)
+      go : (k : ℕ) (t : Bool) → eqb k n ≡ t → (within g k && eqb k n) ≡ (b && eqb k n)
+      go k true z = ap (λ (m : ℕ). within g m && eqb k n) (eqb-true k n z) ∙ ap (λ (t : Bool). t && eqb k n) (sym e)
+      go k false z = ap (λ (t : Bool). within g k && t) z ∙ and-false (within g k) ∙ sym (and-false b) ∙ ap (λ (t : Bool). b && t) (sym z)
 
-  pub alone-outside : not b ≡ true → 0 ≡ maskOf (λ i. between low high i && eqb i n)
+  pub alone-outside : not b ≡ true → 0 ≡ maskOf (λ i. within g i && eqb i n)
   alone-outside h = none ∙ alone-as (λ k. false) (λ k u. ap (λ (t : Bool). t && eqb k n) (not-true b h))
 
-  pub alone-above : recipes < n → 0 ≡ maskOf (λ i. between low high i && eqb i n)
+  pub alone-above : recipes < n → 0 ≡ maskOf (λ i. within g i && eqb i n)
   alone-above h = none ∙ alone-as (λ k. false) (λ k u. ap (λ (t : Bool). b && t) (ne-eqb k n (λ q. omega arith)) ∙ and-false b)
 
-  pub alone-inside : not b ≡ false → n ≤ recipes → shifted n ≡ maskOf (λ i. between low high i && eqb i n)
+  pub alone-inside : not b ≡ false → n ≤ recipes → shifted n ≡ maskOf (λ i. within g i && eqb i n)
   alone-inside h l = each n l ∙ alone-as (λ k. eqb k n) (λ k u. ap (λ (t : Bool). t && eqb k n) (not-false b h))
 
 -- ---- `show_number` and `show_small`: d is what was read

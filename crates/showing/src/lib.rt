@@ -1,6 +1,5 @@
 // What the reply to an accepted request shows of the record.
 use base::all_between;
-use base::is_between;
 use base::wide;
 use command::Reading;
 use knowledge::ALARMS;
@@ -34,6 +33,7 @@ use state::ParameterKind;
 use state::RAW_RANGE;
 use state::RECIPE_RANGE;
 use state::Range;
+use state::within;
 use text::Digits;
 use text::is_word;
 use text::read_number;
@@ -45,8 +45,9 @@ ghost use Prim.Native.Nat.{_*_, _≤_};
 ghost use lib.Dec.{eqb};
 ghost use lib.ListN.{length};
 ghost use Rattle.base.specs.Text.{text};
-ghost use Rattle.base.specs.Test.{pick, between};
+ghost use Rattle.base.specs.Test.{pick};
 ghost use Rattle.state.specs.Parameter.{parameterCount};
+ghost use Rattle.state.specs.Valid.{within};
 ghost use Rattle.command.specs.Status.{first, second, third, fourth, characters, phaseCodes, flagCodes};
 ghost use Rattle.command.specs.Commands.{parameterLabel, acknowledged, composition, systemAlarms};
 ghost use Rattle.command.specs.Request.{readingAs, replyOf};
@@ -68,11 +69,11 @@ const BEGUN: u32 = SET + RUNNING + STOPPED;
 
 const NOT_BEGUN: u32 = ALL_PHASES - BEGUN;
 
-// The set of n alone, if it is one of low to high, for numbers up to the last recipe.
-pub fn alone(low: u32, high: u32, n: u32) -> u32
-    ensures { λ m. ⌜ m ≡ maskOf (λ i. between low high i && eqb i n) ⌝ }
+// The set of n alone, if it is in the range, for numbers up to the last recipe.
+pub fn alone(range: Range, n: u32) -> u32
+    ensures { λ m. ⌜ m ≡ maskOf (λ i. within range i && eqb i n) ⌝ }
 {
-    if !is_between(low, high, n) {
+    if !within(range, n) {
         return 0;
     }
     if LAST_RECIPE < n {
@@ -146,7 +147,7 @@ fn show_small(
     let Digits::Number(n) = number_behind(s, word, width) else {
         return k.refuted();
     };
-    k.restrict(at, alone(range.low, range.high, n))
+    k.restrict(at, alone(range, n))
 }
 
 // RC: the recipe, and that recipe's factor.
@@ -159,12 +160,12 @@ fn show_composition(k: Knowledge, s: &[u8]) -> Knowledge
     let Digits::Number(n) = number_behind(&s[0..5], b"RC ", 2) else {
         return k.refuted();
     };
-    if !is_between(RECIPE_RANGE.low, RECIPE_RANGE.high, n) {
+    if !within(RECIPE_RANGE, n) {
         return k.refuted();
     }
     let place = state::recipe_place(n as u16, ParameterKind::Factor);
     show_number(
-        k.restrict(RECIPE, alone(RECIPE_RANGE.low, RECIPE_RANGE.high, n)),
+        k.restrict(RECIPE, alone(RECIPE_RANGE, n)),
         VALUES + 2 * place,
         FACTOR_RANGE,
         &s[5..],

@@ -135,7 +135,18 @@ unfolding placeIn
 place-none c [] none = refl
 place-none c (p ∷ ps) none = simp (ne-eqb (codeOf p) c (none zero (omega arith)), place-none c ps (λ j l. none (suc j) (omega arith)))
 
--- with n recipes: place and code are inverse, and a code that is not listed has no place
+-- with n recipes: a code that is not listed has no place, and place and code are inverse
+module _ (n : ℕ) where
+  place-unlisted : (c : ℕ) → ((r : ℕ) (k : ParameterKind) → 1 ≤ r → r ≤ n → codeOf (ofRecipe r k) ≡ c → ⊥) → (801 ≤ c → c ≤ 808 → ⊥)
+      → placeIn c (parametersFor n) ≡ Nothing
+  place-unlisted c noRecipe noSystem =
+      let l = list-length n in
+      place-none c (parametersFor n)
+      (λ j h e.
+      ⊎-elim (λ (q : j < 3 * n). noRecipe (j / 3 + 1) (kindAt j) (omega arith) (omega arith) (ap codeOf (sym (at-place n j q)) ∙ e))
+      (λ (q : 3 * n ≤ j). let a = code-system n j q (omega arith) in noSystem (omega arith) (omega arith))
+      (below-or-not j (3 * n)))
+
 module _ (n : ℕ) (few : n ≤ 79) where
   pub place-of-code : (i : ℕ) → i < 3 * n + 8 → placeIn (codeFor n i) (parametersFor n) ≡ At i
   place-of-code i h =
@@ -154,16 +165,6 @@ module _ (n : ℕ) (few : n ≤ 79) where
       let i : ℕ = 3 * n + (c - 801) in
       let e : codeFor n i ≡ c = let q = code-system n i (omega arith) (omega arith) in omega arith in
       ap (λ (x : ℕ). placeIn x (parametersFor n)) (sym e) ∙ place-of-code i (omega arith)
-
-  place-unlisted : (c : ℕ) → ((r : ℕ) (k : ParameterKind) → 1 ≤ r → r ≤ n → codeOf (ofRecipe r k) ≡ c → ⊥) → (801 ≤ c → c ≤ 808 → ⊥)
-      → placeIn c (parametersFor n) ≡ Nothing
-  place-unlisted c noRecipe noSystem =
-      let l = list-length n in
-      place-none c (parametersFor n)
-      (λ j h e.
-      ⊎-elim (λ (q : j < 3 * n). noRecipe (j / 3 + 1) (kindAt j) (omega arith) (omega arith) (ap codeOf (sym (at-place n j q)) ∙ e))
-      (λ (q : 3 * n ≤ j). let a = code-system n j q (omega arith) in noSystem (omega arith) (omega arith))
-      (below-or-not j (3 * n)))
 
 -- ---- 02, L3: tens for the recipe and units for the kind
 
@@ -221,7 +222,7 @@ module _ (n : ℕ) where
         let h = digits-listed n c r k e in
         ap (λ (x : ℕ). placeIn x (parametersFor n)) (sym (h .2)) ∙ place-recipe n few r k (h .0) (h .1)
     place-digits digits.Nothing e other =
-        place-unlisted n few c
+        place-unlisted n c
         (λ r k l h q.
         let g : digits.Nothing ≡ digits.Of r k = sym e ∙ (ap (byDigits n) (sym q) ∙ digits-given n r k l h) in
         let z : _≡_ {A = ℕ} 0 1 = cc in absurd (omega arith)) other

@@ -261,7 +261,7 @@ pub fn range_at(place: usize) -> Range
 }
 
 // The number is in the range.
-fn within(range: Range, n: u32) -> bool
+pub fn within(range: Range, n: u32) -> bool
     ensures { λ b. ⌜ b ≡ within range n ⌝ }
 {
     base::is_between(range.low, range.high, n)

@@ -9,7 +9,7 @@ use native.Mathlib.Omega.{arith}
 use lib.Dec.{eqb, ltb}
 use lib.ListN.{length}
 use borrow.Author.Tests.{eq-eqb, ne-eqb, eqb-true, eqb-false, ltb-true, lt-ltb, not-true}
-use Rattle.base.proofs.Tests.{and-yes, and-left, and-right, between-yes, between-high, holds-below}
+use Rattle.base.proofs.Tests.{and-yes, and-left, and-right, neither, between-yes, between-high, holds-below}
 use Rattle.state.specs.declared.Record.{Record}
 use Rattle.state.specs.Parameter.{parameterCount}
 use Rattle.state.specs.Field.{Field, alarms, value, position, get, put, fieldRange, off, on}
@@ -66,10 +66,6 @@ sound (x ∷ xs) = soundItem x xs && sound xs
 either : {P : Type 0} (a b : Bool) → (a || b) ≡ true → (a ≡ true → P) → (b ≡ true → P) → P
 either true b h f g = f refl
 either false b h f g = g h
-
-neither : (a b : Bool) → (a || b) ≡ false → (a ≡ false) × (b ≡ false)
-neither true b h = absurd (false≢true (sym h))
-neither false b h = (refl, h)
 
 or-right : (a b : Bool) → b ≡ true → (a || b) ≡ true
 or-right true b h = refl

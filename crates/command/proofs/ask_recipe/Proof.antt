@@ -6,9 +6,9 @@ use borrow.Author.Needs.{needs}
 use Rattle.command.proofs.ask_recipe.Statement.{statement}
 use Rattle.command.proofs.ask_recipe.Tie as tie
 
-cast-t5 : tie.Need-cast-t5
-cast-t5 c = let h : c .before .before .args .recipe ≤ 255 = search asking in omega arith
+cast-t4 : tie.Need-cast-t4
+cast-t4 c = let h : c .before .before .args .recipe ≤ 255 = search asking in omega arith
 
 pub ask-recipe-spec : {M : Type 1} → statement M
 ask-recipe-spec =
-    tie.close (tie.spec (λ c κs. search needs) cast-t5 (λ c. search (asking, needs)) (λ c. search (asking, needs)))
+    tie.close (tie.spec (λ c κs. search needs) cast-t4 (λ c. search (asking, needs)) (λ c. search (asking, needs)))

@@ -5,13 +5,13 @@ use Rattle.showing.proofs.alone.Statement.{statement}
 use Rattle.showing.proofs.alone.Tie as tie
 
 returns : tie.Need-returns
-returns c = alone-outside _ _ _ _ (c .before .is-between .ensures) (c .if1 .taken)
+returns c = alone-outside _ _ _ (c .before .within .ensures) (c .if1 .taken)
 
 returns-2 : tie.Need-returns-2
-returns-2 c = alone-above _ _ _ _ (c .before .before .is-between .ensures) (c .if2 .taken)
+returns-2 c = alone-above _ _ _ (c .before .before .within .ensures) (c .if2 .taken)
 
 returns-3 : tie.Need-returns-3
-returns-3 c = alone-inside _ _ _ _ (c .before .before .is-between .ensures) (c .before .if1 .left) (c .if2 .left)
+returns-3 c = alone-inside _ _ _ (c .before .before .within .ensures) (c .before .if1 .left) (c .if2 .left)
 
 pub alone-spec : {M : Type 1} → statement M
 alone-spec =
