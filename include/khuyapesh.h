@@ -5,7 +5,7 @@
  *     as many bytes as that length says are there to be read, and to be written where the pointer is not const;
  *     what is written overlaps nothing else of the same call, and no other thread touches it meanwhile;
  *     what is only read, no other thread writes meanwhile;
- *     place and count of khuyapesh_judge are aligned as size_t is.
+ *     what points to a size_t is aligned as size_t is.
  *
  * A call takes under KHUYAPESH_STACK bytes of stack and no heap, writes no data but what is lent, and needs nothing outside
  * of the library but memcpy, memmove, memset or memcmp. So every function is re-entrant, and threads may call at the same
@@ -74,6 +74,18 @@ extern "C" {
  * S8. */
 uint32_t khuyapesh_call(uint8_t kind, uint8_t *stored, size_t stored_length, const uint8_t *request, size_t request_length,
                         uint8_t *reply, size_t reply_length);
+
+/* Answers all minicomputer frames in the lent bytes, in order, as khuyapesh_call would one by one. A byte that is not STX
+ * is skipped; so is an STX whose text has a byte that is none of a text, or a 61st, or whose frame is silent by other than
+ * S8. Stops at an STX if the bytes end before this is decided, or if an answer is due and under KHUYAPESH_FRAME_ROOM bytes
+ * of reply room are left. Answers KHUYAPESH_DONE, with the bytes taken in *taken, the frames answered in *answered, the
+ * reply bytes in *written, the replies end to end at the start of the reply buffer, the rest of which stays, and the record
+ * after them in place of the stored record; or K1 to K4, then K6 as in khuyapesh_call, with 0 in all three. If at the end
+ * there was room for an answer more, at most KHUYAPESH_FRAME_ROOM - 1 bytes are left untaken: lend them again before those
+ * that come next, in a buffer that holds so many more than a tick brings. Reply room of KHUYAPESH_FRAME_ROOM bytes for every
+ * 8 that are lent, and as many more, is always enough. */
+uint32_t khuyapesh_several(uint8_t *stored, size_t stored_length, const uint8_t *bytes, size_t bytes_length, uint8_t *reply,
+                           size_t reply_length, size_t *taken, size_t *answered, size_t *written);
 
 /* One panel event; number is the count of pulses (KHUYAPESH_PULSES) or the alarm's number (KHUYAPESH_ALARM_ON and
  * KHUYAPESH_ALARM_OFF; one outside 1 to 19 changes nothing), and the others do not read it. Answers KHUYAPESH_DONE, with

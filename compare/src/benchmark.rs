@@ -3,7 +3,7 @@
 //! 01, without alarms, so that the numbers of one delivery can be held against another's.
 
 use crate::fault::Fault;
-use crate::frame::{self, Kind};
+use crate::frame::{self, Kind, ETX, LEAST_BUFFER, STX};
 use crate::generate::recordings;
 use crate::generate::records::record_without_alarms;
 use crate::generate::requests::{self, command_of_document_01, Commands};
@@ -34,46 +34,56 @@ fn classes(seed: u64) -> Vec<Class> {
     for length in [1_000, 8_000, 65_535] {
         classes.push(judged(&mut random, length));
     }
+    for length in [8_192, 65_536] {
+        classes.extend(streams(&mut random, length));
+    }
     classes
 }
 
 type Mix = (&'static str, Vec<Vec<u8>>);
 
+const READS: [&str; 8] = ["EQ", "RS", "TN", "RR", "RC", "RT R", "PV 032", "XV 807"];
+const WRITES: [&str; 8] = [
+    "PC 032 10150",
+    "XC 011 1",
+    "NR 05",
+    "SB 500",
+    "SA",
+    "SP",
+    "ET",
+    "RE BD",
+];
+
+/// Requests to this record.
+fn framed(record: &Record, commands: &[&str]) -> Vec<Vec<u8>> {
+    let text = |command: &&str| format!("{:02}{command}", record.address);
+    let texts = commands.iter().map(text);
+    texts
+        .map(|text| frame::framed(Kind::Minicomputer, text.as_bytes()))
+        .collect()
+}
+
+/// A record that accepts the writes in their order.
+fn open_record(random: &mut Random) -> Record {
+    Record {
+        address: 1,
+        access: 3,
+        phase: Phase::Idle,
+        keypad: false,
+        ..record_without_alarms(random)
+    }
+}
+
 fn mixes(random: &mut Random, record: &Record) -> Vec<Mix> {
-    let framed = |commands: &[&str]| -> Vec<Vec<u8>> {
-        commands
-            .iter()
-            .map(|command| {
-                frame::framed(
-                    Kind::Minicomputer,
-                    format!("{:02}{command}", record.address).as_bytes(),
-                )
-            })
-            .collect()
-    };
+    let framed = |commands: &[&str]| framed(record, commands);
     let mut damaged = framed(&["EQ", "PC 032 10150", "PV 807"]);
     for frame in &mut damaged {
         let check = frame.len() - 2;
         frame[check] ^= 1;
     }
     vec![
-        (
-            "calls: reads",
-            framed(&["EQ", "RS", "TN", "RR", "RC", "RT R", "PV 032", "XV 807"]),
-        ),
-        (
-            "calls: writes",
-            framed(&[
-                "PC 032 10150",
-                "XC 011 1",
-                "NR 05",
-                "SB 500",
-                "SA",
-                "SP",
-                "ET",
-                "RE BD",
-            ]),
-        ),
+        ("calls: reads", framed(&READS)),
+        ("calls: writes", framed(&WRITES)),
         (
             "calls: refusals",
             framed(&["QQ", "EQ ", "RT G", "PV 999", "NR 09", "PC 032 1", "SP"]),
@@ -89,13 +99,7 @@ fn mixes(random: &mut Random, record: &Record) -> Vec<Mix> {
 }
 
 fn calls(random: &mut Random) -> Vec<Class> {
-    let record = Record {
-        address: 1,
-        access: 3,
-        phase: Phase::Idle,
-        keypad: false,
-        ..record_without_alarms(random)
-    };
+    let record = open_record(random);
     let form = stored::form(&record);
     let class = |(name, requests): Mix| {
         let (mut form_first, mut form_second) = (form, form);
@@ -159,6 +163,54 @@ fn judged(random: &mut Random, length: usize) -> Class {
         }),
         second: Box::new(move || {
             black_box(interface::judge(black_box(&recording_second), Fault::None));
+        }),
+    }
+}
+
+/// Streams of about this length: good frames, reads and writes by turns; noise; nothing but STX, each
+/// of which is looked at; STX and ETX by turns, which hand over a frame every two bytes.
+fn streams(random: &mut Random, length: usize) -> Vec<Class> {
+    let record = open_record(random);
+    let form = stored::form(&record);
+    let reads = framed(&record, &READS);
+    let writes = framed(&record, &WRITES);
+    let turn = reads
+        .iter()
+        .zip(&writes)
+        .flat_map(|(read, write)| [read, write]);
+    let turn: Vec<u8> = turn.flatten().copied().collect();
+    [
+        ("frames", turn.repeat(length / turn.len())),
+        ("noise", random.bytes(length)),
+        ("STX", vec![STX; length]),
+        ("STX and ETX", [STX, ETX].repeat(length / 2)),
+    ]
+    .map(|(name, stream)| walked(name, form, stream))
+    .into()
+}
+
+fn walked(name: &str, form: [u8; STORED_LENGTH], stream: Vec<u8>) -> Class {
+    let (mut form_first, mut form_second) = (form, form);
+    // Room for the longest reply to each of the shortest frames.
+    let mut reply_first = vec![0; LEAST_BUFFER * (1 + stream.len() / 8)];
+    let mut reply_second = reply_first.clone();
+    let stream_second = stream.clone();
+    Class {
+        name: format!("several: {} bytes of {name}", stream.len()),
+        unit: "byte",
+        units: stream.len(),
+        library: Box::new(move || {
+            let answer = library::several(&mut form_first, black_box(&stream), &mut reply_first);
+            black_box(answer);
+        }),
+        second: Box::new(move || {
+            let answer = interface::several(
+                &mut form_second,
+                black_box(&stream_second),
+                &mut reply_second,
+                Fault::None,
+            );
+            black_box(answer);
         }),
     }
 }

@@ -2,6 +2,8 @@
 //! comes back.
 
 use crate::fault::Fault;
+use crate::frame::LEAST_BUFFER;
+use crate::several::Report;
 use crate::{interface, library};
 use std::fmt::{self, Write};
 
@@ -58,6 +60,9 @@ impl fmt::Display for Difference {
 #[derive(Default, Clone, Copy)]
 pub struct Counts {
     pub calls: u64,
+    pub several_frames: u64,
+    pub answered: u64,
+    pub stopped: u64,
     pub panel_events: u64,
     pub stored_forms: u64,
     pub host_side: u64,
@@ -71,6 +76,7 @@ pub struct Counts {
 impl Counts {
     pub fn comparisons(&self) -> u64 {
         self.calls
+            + self.several_frames
             + self.panel_events
             + self.stored_forms
             + self.host_side
@@ -83,9 +89,13 @@ impl fmt::Display for Counts {
     fn fmt(&self, formatter: &mut fmt::Formatter<'_>) -> fmt::Result {
         write!(
             formatter,
-            "calls {}, panel events {}, stored forms {}, host side {}, enumerated {}, \
+            "calls {}, several frames {} (answered {}, stopped {}), panel events {}, \
+             stored forms {}, host side {}, enumerated {}, \
              recordings {} (fits {}, refuted {}, refused {})",
             self.calls,
+            self.several_frames,
+            self.answered,
+            self.stopped,
             self.panel_events,
             self.stored_forms,
             self.host_side,
@@ -131,43 +141,106 @@ impl Comparison {
         reply: &[u8],
     ) -> Result<(u32, Vec<u8>, Vec<u8>), Difference> {
         self.count(|counts| &mut counts.calls);
-        let (mut stored_first, mut reply_first) = (Lent::new(stored), Lent::new(reply));
-        let (mut stored_second, mut reply_second) = (stored_first.clone(), reply_first.clone());
-        let first = library::call(kind, stored_first.slice(), request, reply_first.slice());
-        let second = interface::call(
-            kind,
-            stored_second.slice(),
-            request,
-            reply_second.slice(),
-            self.fault,
-        );
-        if first != second || stored_first != stored_second || reply_first != reply_second {
-            return Err(report(
-                &format!("call, kind {kind}"),
-                &[("stored", stored), ("request", request), ("reply", reply)],
-                (first, &[("stored", &stored_first), ("reply", &reply_first)]),
-                (
-                    second,
-                    &[("stored", &stored_second), ("reply", &reply_second)],
-                ),
-            ));
+        let (answer, [after, reply]) = both(
+            || format!("call, kind {kind}"),
+            &[("request", request)],
+            [("stored", stored), ("reply", reply)],
+            |[stored, reply]| library::call(kind, stored, request, reply),
+            |[stored, reply]| interface::call(kind, stored, request, reply, self.fault),
+        )?;
+        Ok((answer, after, reply))
+    }
+
+    /// Compares a call over several frames; answers what is reported, the stored record after it and
+    /// the reply buffer.
+    pub fn several(
+        &mut self,
+        stored: &[u8],
+        bytes: &[u8],
+        reply: &[u8],
+    ) -> Result<(Report, Vec<u8>, Vec<u8>), Difference> {
+        self.count(|counts| &mut counts.several_frames);
+        let ((_, report), [after, reply]) = both(
+            || "several frames".to_string(),
+            &[("bytes", bytes)],
+            [("stored", stored), ("reply", reply)],
+            |[stored, reply]| library::several(stored, bytes, reply),
+            |[stored, reply]| interface::several(stored, bytes, reply, self.fault),
+        )?;
+        if !self.enumerating {
+            self.counts.answered += report.answered as u64;
+            self.counts.stopped += u64::from(report.taken < bytes.len());
         }
-        Ok((
-            first,
-            stored_first.content().to_vec(),
-            reply_first.content().to_vec(),
-        ))
+        Ok((report, after, reply))
+    }
+
+    /// Lends a stream at once, and in ticks, what was not taken before what comes next: what comes of
+    /// it has to be the same.
+    pub fn several_in_ticks(
+        &mut self,
+        stored: &[u8],
+        ticks: &[&[u8]],
+        room: usize,
+    ) -> Result<(), Difference> {
+        let reply = vec![0; room];
+        let stream = ticks.concat();
+        let (at_once, after_once, replies_at_once) = self.several(stored, &stream, &reply)?;
+        let mut total = Report::default();
+        let (mut record, mut replies, mut untaken) = (stored.to_vec(), vec![], vec![]);
+        for tick in ticks {
+            untaken.extend_from_slice(tick);
+            let (report, after, laid) = self.several(&record, &untaken, &reply)?;
+            untaken.drain(..report.taken);
+            replies.extend_from_slice(&laid[..report.written]);
+            record = after;
+            total.taken += report.taken;
+            total.answered += report.answered;
+            total.written += report.written;
+        }
+        let same = total == at_once
+            && record == after_once
+            && replies == replies_at_once[..at_once.written];
+        if same {
+            return Ok(());
+        }
+        Err(not_the_same("in ticks", stored, ticks))
+    }
+
+    /// Lends frames end to end, and each to a call of its own: what comes of it has to be the same.
+    pub fn several_and_calls(&mut self, stored: &[u8], frames: &[&[u8]]) -> Result<(), Difference> {
+        let end_to_end = frames.concat();
+        let reply = vec![0; LEAST_BUFFER * (frames.len() + 1)];
+        let (report, after_all, replies_at_once) = self.several(stored, &end_to_end, &reply)?;
+        let (mut record, mut replies, mut answered) = (stored.to_vec(), vec![], 0);
+        for frame in frames {
+            let (answer, after, laid) = self.call(0, &record, frame, &reply[..LEAST_BUFFER])?;
+            if answer < 100 {
+                replies.extend_from_slice(&laid[..answer as usize]);
+                answered += 1;
+            }
+            record = after;
+        }
+        let expected = Report {
+            taken: end_to_end.len(),
+            answered,
+            written: replies.len(),
+        };
+        if report == expected && record == after_all && replies == replies_at_once[..replies.len()]
+        {
+            return Ok(());
+        }
+        Err(not_the_same("one by one", stored, frames))
     }
 
     /// Compares one panel event; answers the stored record after it.
     pub fn panel(&mut self, event: u8, number: u16, stored: &[u8]) -> Result<Vec<u8>, Difference> {
         self.count(|counts| &mut counts.panel_events);
-        let (_, after) = both(
+        let (_, [after]) = both(
             || format!("panel event {event}, number {number}"),
             &[],
-            ("stored", stored),
-            |lent| library::panel(event, number, lent),
-            |lent| interface::panel(event, number, lent, self.fault),
+            [("stored", stored)],
+            |[lent]| library::panel(event, number, lent),
+            |[lent]| interface::panel(event, number, lent, self.fault),
         )?;
         Ok(after)
     }
@@ -177,9 +250,9 @@ impl Comparison {
         both(
             || "stored form".to_string(),
             &[("stored", stored)],
-            ("out", out),
-            |lent| library::stored(stored, lent),
-            |lent| interface::stored(stored, lent, self.fault),
+            [("out", out)],
+            |[lent]| library::stored(stored, lent),
+            |[lent]| interface::stored(stored, lent, self.fault),
         )?;
         Ok(())
     }
@@ -195,9 +268,9 @@ impl Comparison {
         let answered = both(
             || format!("build, kind {kind}"),
             &[("text", text)],
-            ("out", out),
-            |lent| library::build(kind, text, lent),
-            |lent| interface::build(kind, text, lent, self.fault),
+            [("out", out)],
+            |[lent]| library::build(kind, text, lent),
+            |[lent]| interface::build(kind, text, lent, self.fault),
         )?;
         Ok(laid(answered))
     }
@@ -213,9 +286,9 @@ impl Comparison {
         let answered = both(
             || format!("read, kind {kind}"),
             &[("frame", frame)],
-            ("out", out),
-            |lent| library::read(kind, frame, lent),
-            |lent| interface::read(kind, frame, lent, self.fault),
+            [("out", out)],
+            |[lent]| library::read(kind, frame, lent),
+            |[lent]| interface::read(kind, frame, lent, self.fault),
         )?;
         Ok(laid(answered))
     }
@@ -276,45 +349,63 @@ fn no_round_trip(kind: u8, text: &[u8], frame: &[u8]) -> Difference {
     ))
 }
 
-/// Lends one buffer to each side, and compares the answers and every byte; answers the number and
-/// the buffer.
-fn both(
+fn not_the_same(how: &str, stored: &[u8], parts: &[&[u8]]) -> Difference {
+    let mut text = format!(
+        "several frames at once and {how}\n  stored {}\n",
+        hexadecimal(stored)
+    );
+    for part in parts {
+        text += &format!("  {}\n", hexadecimal(part));
+    }
+    Difference(text)
+}
+
+/// Lends the same buffers to each side, and compares the answers and every byte; answers what was
+/// answered and the buffers.
+fn both<Answer: PartialEq + fmt::Debug, const BUFFERS: usize>(
     what: impl FnOnce() -> String,
     read: &[(&str, &[u8])],
-    (name, content): (&'static str, &[u8]),
-    library: impl FnOnce(&mut [u8]) -> u32,
-    second_program: impl FnOnce(&mut [u8]) -> u32,
-) -> Result<(u32, Vec<u8>), Difference> {
-    let mut lent_first = Lent::new(content);
+    contents: [(&'static str, &[u8]); BUFFERS],
+    library: impl FnOnce([&mut [u8]; BUFFERS]) -> Answer,
+    second_program: impl FnOnce([&mut [u8]; BUFFERS]) -> Answer,
+) -> Result<(Answer, [Vec<u8>; BUFFERS]), Difference> {
+    let mut lent_first = contents.map(|(_, content)| Lent::new(content));
     let mut lent_second = lent_first.clone();
-    let first = library(lent_first.slice());
-    let second = second_program(lent_second.slice());
+    let first = library(lent_first.each_mut().map(Lent::slice));
+    let second = second_program(lent_second.each_mut().map(Lent::slice));
     if first != second || lent_first != lent_second {
-        return Err(report(
+        return Err(difference(
             &what(),
-            &[read, &[(name, content)]].concat(),
-            (first, &[(name, &lent_first)]),
-            (second, &[(name, &lent_second)]),
+            read,
+            &contents,
+            (&first, &lent_first),
+            (&second, &lent_second),
         ));
     }
-    Ok((first, lent_first.content().to_vec()))
+    Ok((first, lent_first.map(|lent| lent.content().to_vec())))
 }
 
 /// The bytes at the start of a buffer whose length was answered; none, if a refusal was.
-fn laid((answer, buffer): (u32, Vec<u8>)) -> Option<Vec<u8>> {
+fn laid((answer, [buffer]): (u32, [Vec<u8>; 1])) -> Option<Vec<u8>> {
     (answer < 100).then(|| buffer[..answer as usize].to_vec())
 }
 
-type Answered<'lent> = (u32, &'lent [(&'static str, &'lent Lent)]);
+type Answered<'lent> = (&'lent dyn fmt::Debug, &'lent [Lent]);
 
-fn report(what: &str, inputs: &[(&str, &[u8])], first: Answered, second: Answered) -> Difference {
+fn difference(
+    what: &str,
+    read: &[(&str, &[u8])],
+    contents: &[(&str, &[u8])],
+    first: Answered,
+    second: Answered,
+) -> Difference {
     let mut text = format!("{what}\n");
-    for (name, bytes) in inputs {
+    for (name, bytes) in read.iter().chain(contents) {
         text += &format!("  {name} {}\n", hexadecimal(bytes));
     }
     for (side, (answer, lent)) in [("library", first), ("second program", second)] {
-        text += &format!("  {side}: answer {answer}\n");
-        for (name, bytes) in lent {
+        text += &format!("  {side}: answer {answer:?}\n");
+        for ((name, _), bytes) in contents.iter().zip(lent) {
             text += &format!("    {name} {}\n", hexadecimal(bytes.content()));
             if !bytes.guards_stand() {
                 text += &format!("    bytes around {name} were overwritten\n");

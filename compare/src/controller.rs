@@ -215,13 +215,16 @@ fn status_codes(record: &Record, fault: Fault) -> [(&'static [u8; 3], bool); 9] 
     codes
 }
 
-/// The reply's text and the record after a command.
-pub fn carry_out(mut record: Record, command: Command, fault: Fault) -> (ReplyText, Record) {
-    match answer(&record, command, fault) {
-        Ok(text) => (text, record_after(record, command, fault)),
+/// Has a command take effect, or refuses it; answers the reply's text.
+fn carry_out(record: &mut Record, command: Command, fault: Fault) -> ReplyText {
+    match answer(record, command, fault) {
+        Ok(text) => {
+            take_effect(record, command, fault);
+            text
+        }
         Err(number) => {
             record.changed |= fault == Fault::RecordChangedOnRefusal && number == 5;
-            (refusal(record.address, number), record)
+            refusal(record.address, number)
         }
     }
 }
@@ -289,13 +292,13 @@ fn held_value(record: &Record, place: usize, fault: Fault) -> u32 {
 }
 
 /// The effect of a command that was accepted.
-pub fn record_after(mut record: Record, command: Command, fault: Fault) -> Record {
+fn take_effect(record: &mut Record, command: Command, fault: Fault) {
     match command {
         Command::WriteValue(Named { mut place, .. }, value) => {
             if fault == Fault::WriteInOtherFactor && is_factor(place) {
                 place = (place + 3) % 24;
             }
-            let differs = value != held_value(&record, place, fault);
+            let differs = value != held_value(record, place, fault);
             record.parameters[place].value = value;
             record.changed = match fault {
                 Fault::WriteKeepsChanged => record.changed,
@@ -334,6 +337,11 @@ pub fn record_after(mut record: Record, command: Command, fault: Fault) -> Recor
         Command::ResetAlarms => record.alarms = alarms::after_reset(record.alarms, fault),
         _ => {}
     }
+}
+
+/// The record after a command that was accepted.
+pub fn record_after(mut record: Record, command: Command, fault: Fault) -> Record {
+    take_effect(&mut record, command, fault);
     record
 }
 
@@ -355,9 +363,33 @@ fn early_refusal(record: &Record, number: u8, code: [u8; 2], fault: Fault) -> u8
     number
 }
 
+/// Answers a request that was understood, the reply laid into a buffer that has room for it, and
+/// changes the record as it asks.
+pub fn respond(
+    record: &mut Record,
+    kind: Kind,
+    request: Request,
+    buffer: &mut [u8],
+    fault: Fault,
+) -> Outcome {
+    let text = match request {
+        Request::Silent(silence) => return Outcome::Silence(silence),
+        Request::Refused(number, code) => {
+            let number = early_refusal(record, number, code, fault);
+            refusal(record.address, number)
+        }
+        Request::Asked(command) => carry_out(record, command, fault),
+    };
+    let length = frame::lay(kind, text.bytes(), buffer);
+    if fault == Fault::ReplyTailOverwritten {
+        buffer[length..].fill(0);
+    }
+    Outcome::Reply(length)
+}
+
 /// One call: the outcome, the record after it, and the reply in the lent buffer.
 pub fn call(
-    record: Record,
+    mut record: Record,
     kind: Kind,
     request: &[u8],
     buffer: &mut [u8],
@@ -373,17 +405,6 @@ pub fn call(
     if buffer.len() < LEAST_BUFFER {
         return (Outcome::Silence(2), record);
     }
-    let (text, after) = match understood {
-        Request::Silent(silence) => return (Outcome::Silence(silence), record),
-        Request::Refused(number, code) => {
-            let number = early_refusal(&record, number, code, fault);
-            (refusal(record.address, number), record)
-        }
-        Request::Asked(command) => carry_out(record, command, fault),
-    };
-    let length = frame::lay(kind, text.bytes(), buffer);
-    if fault == Fault::ReplyTailOverwritten {
-        buffer[length..].fill(0);
-    }
-    (Outcome::Reply(length), after)
+    let outcome = respond(&mut record, kind, understood, buffer, fault);
+    (outcome, record)
 }

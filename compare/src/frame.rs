@@ -2,9 +2,9 @@
 
 use crate::fault::Fault;
 
-const STX: u8 = 0x02;
-const ETX: u8 = 0x03;
-const PAD: u8 = 0x7F;
+pub const STX: u8 = 0x02;
+pub const ETX: u8 = 0x03;
+pub const PAD: u8 = 0x7F;
 const CR: u8 = 0x0D;
 const LF: u8 = 0x0A;
 
@@ -33,7 +33,7 @@ pub fn is_text_byte(byte: u8) -> bool {
     (0x20..=0x7E).contains(&byte)
 }
 
-fn check_over(bytes: &[u8]) -> u8 {
+pub fn check_over(bytes: &[u8]) -> u8 {
     bytes.iter().fold(0, |check, byte| check ^ byte)
 }
 

@@ -7,6 +7,7 @@ use crate::frame::{self, HostRefusal, Kind};
 use crate::judge::{self, Judgement};
 use crate::panel::{self, Event};
 use crate::record::Record;
+use crate::several::{self, Report};
 use crate::stored::{self, STORED_LENGTH};
 
 const UNKNOWN_KIND_OR_EVENT: u32 = 300;
@@ -45,6 +46,33 @@ pub fn call(kind: u8, stored: &mut [u8], request: &[u8], reply: &mut [u8], fault
             stored.copy_from_slice(&stored::form(&after));
             length as u32
         }
+    }
+}
+
+/// The answer, and what is reported beside it.
+pub fn several(stored: &mut [u8], bytes: &[u8], reply: &mut [u8], fault: Fault) -> (u32, Report) {
+    let mut record = match lent_record(stored, fault) {
+        Ok(record) => record,
+        Err(answer) => return (answer, nothing_taken(bytes, fault)),
+    };
+    match several::answer_all(&mut record, bytes, reply, fault) {
+        Some(report) => {
+            stored.copy_from_slice(&stored::form(&record));
+            (0, report)
+        }
+        None => (101, nothing_taken(bytes, fault)),
+    }
+}
+
+/// What is reported beside a refusal.
+fn nothing_taken(bytes: &[u8], fault: Fault) -> Report {
+    let taken = match fault {
+        Fault::RefusedRecordTakesBytes => bytes.len(),
+        _ => 0,
+    };
+    Report {
+        taken,
+        ..Report::default()
     }
 }
 
@@ -149,6 +177,41 @@ mod tests {
         assert_eq!(out[..180], stored::form(&Record::low()));
         assert_eq!(out[180..], [9; 2]);
         assert_eq!(enquire(0, &out[..180], 63).0, 102);
+    }
+
+    /// Each refusal of the stored record reports nothing and leaves every byte.
+    #[test]
+    fn several_frames_to_stored_bytes() {
+        let low = stored::form(&Record::low()).to_vec();
+        let set = Record {
+            recipe: 2,
+            ..Record::low()
+        };
+        let stream = frame::framed(Kind::Minicomputer, b"01NR 02");
+        let over = |stored: &[u8]| {
+            let (mut lent, mut reply) = (stored.to_vec(), [9; 64]);
+            let answered = several(&mut lent, &stream, &mut reply, Fault::None);
+            (answered, lent, reply != [9; 64])
+        };
+        let report = Report {
+            taken: 11,
+            answered: 1,
+            written: 8,
+        };
+        assert_eq!(over(&low), ((0, report), stored::form(&set).to_vec(), true));
+        let mut refused = vec![
+            (201, low[..179].to_vec()),
+            (206, stored::old_form(&set).to_vec()),
+        ];
+        for (answer, place) in [(202, 0), (203, 2), (204, 3)] {
+            let mut bad = low.clone();
+            bad[place] = 0;
+            refused.push((answer, bad));
+        }
+        for (answer, stored) in refused {
+            let expected = ((answer, Report::default()), stored.clone(), false);
+            assert_eq!(over(&stored), expected);
+        }
     }
 
     #[test]

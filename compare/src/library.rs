@@ -6,6 +6,8 @@
 mod declared {
     #![allow(unsafe_code)]
 
+    use crate::several::Report;
+
     extern "C" {
         fn khuyapesh_call(
             kind: u8,
@@ -15,6 +17,17 @@ mod declared {
             request_length: usize,
             reply: *mut u8,
             reply_length: usize,
+        ) -> u32;
+        fn khuyapesh_several(
+            stored: *mut u8,
+            stored_length: usize,
+            bytes: *const u8,
+            bytes_length: usize,
+            reply: *mut u8,
+            reply_length: usize,
+            taken: *mut usize,
+            answered: *mut usize,
+            written: *mut usize,
         ) -> u32;
         fn khuyapesh_panel(event: u8, number: u16, stored: *mut u8, stored_length: usize) -> u32;
         fn khuyapesh_stored(
@@ -60,6 +73,32 @@ mod declared {
         }
     }
 
+    /// The answer, and what is reported beside it.
+    pub fn several(stored: &mut [u8], bytes: &[u8], reply: &mut [u8]) -> (u32, Report) {
+        // No number is one that the library should leave.
+        let mut report = Report {
+            taken: usize::MAX,
+            answered: usize::MAX,
+            written: usize::MAX,
+        };
+        // SAFETY: pointers and lengths of live slices, and pointers to three numbers of our own; what is
+        // written overlaps nothing else.
+        let answer = unsafe {
+            khuyapesh_several(
+                stored.as_mut_ptr(),
+                stored.len(),
+                bytes.as_ptr(),
+                bytes.len(),
+                reply.as_mut_ptr(),
+                reply.len(),
+                &mut report.taken,
+                &mut report.answered,
+                &mut report.written,
+            )
+        };
+        (answer, report)
+    }
+
     pub fn panel(event: u8, number: u16, stored: &mut [u8]) -> u32 {
         // SAFETY: pointer and length of a live slice.
         unsafe { khuyapesh_panel(event, number, stored.as_mut_ptr(), stored.len()) }
@@ -100,15 +139,20 @@ mod declared {
 }
 
 #[cfg(not(feature = "self_test"))]
-pub use declared::{build, call, judge, panel, read, stored};
+pub use declared::{build, call, judge, panel, read, several, stored};
 
 #[cfg(feature = "self_test")]
 mod stand_in {
     use crate::fault::Fault;
     use crate::interface;
+    use crate::several::Report;
 
     pub fn call(kind: u8, stored: &mut [u8], request: &[u8], reply: &mut [u8]) -> u32 {
         interface::call(kind, stored, request, reply, Fault::None)
+    }
+
+    pub fn several(stored: &mut [u8], bytes: &[u8], reply: &mut [u8]) -> (u32, Report) {
+        interface::several(stored, bytes, reply, Fault::None)
     }
 
     pub fn panel(event: u8, number: u16, stored: &mut [u8]) -> u32 {
@@ -133,4 +177,4 @@ mod stand_in {
 }
 
 #[cfg(feature = "self_test")]
-pub use stand_in::{build, call, judge, panel, read, stored};
+pub use stand_in::{build, call, judge, panel, read, several, stored};

@@ -23,6 +23,7 @@ mod random;
 mod record;
 mod recording;
 mod run;
+mod several;
 mod stored;
 #[cfg(test)]
 mod worked_examples;

@@ -4,7 +4,7 @@ use crate::comparison::{Comparison, Counts, Difference};
 use crate::enumeration;
 use crate::fault::Fault;
 use crate::frame::{self, Kind};
-use crate::generate::{host, recordings, records, requests, stored_forms};
+use crate::generate::{host, recordings, records, requests, stored_forms, streams};
 use crate::random::Random;
 use crate::record::Record;
 use crate::stored;
@@ -51,11 +51,17 @@ fn random_rounds(
             |round: u64| (u128::from(total) * u128::from(round) / u128::from(rounds)) as u64;
         up_to(round + 1) - up_to(round)
     };
-    let mut record = stored::form(&records::record(&mut random)).to_vec();
+    let mut record = any_record(&mut random);
+    // Numbers and a record of their own: all else that a seed gives does not hang on the streams.
+    let mut random_of_streams = Random::new(!amounts.seed);
+    let mut record_of_streams = any_record(&mut random_of_streams);
     let mut last_progress = Instant::now();
     for round in 0..rounds {
         for _ in 0..share(amounts.calls, round) {
             record = one_call(comparison, &mut random, record)?;
+        }
+        for _ in 0..share(amounts.calls / 10, round) {
+            record_of_streams = one_stream(comparison, &mut random_of_streams, record_of_streams)?;
         }
         for _ in 0..share(amounts.calls / 10, round) {
             let form = stored_forms::stored_form(&mut random);
@@ -74,6 +80,10 @@ fn random_rounds(
         }
     }
     Ok(())
+}
+
+fn any_record(random: &mut Random) -> Vec<u8> {
+    stored::form(&records::record(random)).to_vec()
 }
 
 /// A lent buffer of random bytes, mostly of the least length or somewhat more.
@@ -118,7 +128,7 @@ fn one_call(
     mut record: Vec<u8>,
 ) -> Result<Vec<u8>, Difference> {
     if random.percent(20) {
-        record = stored::form(&records::record(random)).to_vec();
+        record = any_record(random);
     }
     if random.percent(25) {
         record = one_event(comparison, random, record)?;
@@ -138,6 +148,38 @@ fn one_call(
     }
     let (_, after, _) = comparison.call(kind_number, &record, &request, &reply)?;
     Ok(after)
+}
+
+/// One stream in ticks, what was not taken before what comes next, and now and then a panel event;
+/// answers the stored record to go on with.
+fn one_stream(
+    comparison: &mut Comparison,
+    random: &mut Random,
+    mut record: Vec<u8>,
+) -> Result<Vec<u8>, Difference> {
+    if random.percent(20) {
+        record = any_record(random);
+    }
+    let (_, held) = stored::read(&record, Fault::None);
+    let stream = streams::stream(random, &held);
+    let mut untaken = Vec::new();
+    for tick in streams::ticks(random, &stream) {
+        if random.percent(25) {
+            record = one_event(comparison, random, record)?;
+        }
+        untaken.extend(tick);
+        let (_, held) = stored::read(&record, Fault::None);
+        let length = streams::reply_length(random, &held, &untaken);
+        let reply = random.bytes(length);
+        if random.percent(3) {
+            let form = stored_forms::stored_form(random);
+            comparison.several(&form, &untaken, &reply)?;
+        }
+        let (report, after, _) = comparison.several(&record, &untaken, &reply)?;
+        untaken.drain(..report.taken);
+        record = after;
+    }
+    Ok(record)
 }
 
 fn host_side(comparison: &mut Comparison, random: &mut Random) -> Result<(), Difference> {

@@ -10,6 +10,7 @@ use crate::judge::{judge, Judgement};
 use crate::parameters::{factor_place, parameter_code, parameter_place, LIST, VALUE_RANGES};
 use crate::record::{Phase, Record};
 use crate::recording;
+use crate::several::{self, Report};
 use std::fs;
 use std::path::Path;
 
@@ -467,6 +468,126 @@ fn judge_of_the_changed_flag() {
     assert!(fits(&[shown, write, on]));
     assert!(refuted_at_last(&[shown, write_other, off]));
     assert!(refuted_at_last(&[shown, write, off, write, on]));
+}
+
+/// The bytes that are written out in hexadecimal digits.
+fn bytes(digits: &str) -> Vec<u8> {
+    let byte = |digits| u8::from_str_radix(digits, 16).unwrap();
+    digits.split(' ').map(byte).collect()
+}
+
+/// Walks over a stream with so much reply room, checks the bytes taken, the frames answered and the
+/// replies, and answers the record then.
+fn walk(record: Record, stream: &str, room: usize, expected: (usize, usize, &[&str])) -> Record {
+    let (taken, answered, replies) = expected;
+    let replies: Vec<u8> = replies.iter().flat_map(|digits| bytes(digits)).collect();
+    let mut after = record;
+    let mut reply = vec![0xEE; room];
+    let report = several::answer_all(&mut after, &bytes(stream), &mut reply, Fault::None);
+    let expected = Report {
+        taken,
+        answered,
+        written: replies.len(),
+    };
+    assert_eq!(report, Some(expected), "{stream}");
+    assert_eq!(reply[..replies.len()], replies, "{stream}");
+    let kept = &reply[replies.len()..];
+    assert!(kept.iter().all(|&byte| byte == 0xEE), "{stream}");
+    after
+}
+
+// Frames to the bench record, and their replies.
+const EQ: &str = "02 30 31 45 51 03 16 7F";
+const EQ_REPLY: &str = "02 30 31 30 30 30 30 30 30 03 02 7F";
+const OTHER_ADDRESS: &str = "02 30 32 45 51 03 15 7F";
+const WRONG_CHECK: &str = "02 30 31 45 51 03 17 7F";
+/// "01AA", whose check is STX.
+const AA: &str = "02 30 31 41 41 03 02 7F";
+const NO00: &str = "02 30 31 4E 4F 30 30 03 03 7F";
+
+#[test]
+fn several_frames_end_to_end() {
+    // EQ, PC 032 10150, RC: the third sees what the second wrote.
+    let write = "02 30 31 50 43 20 30 33 32 20 31 30 31 35 30 03 15 7F";
+    let stream = format!("{EQ} {write} 02 30 31 52 43 03 13 7F");
+    let replies = [
+        EQ_REPLY,
+        "02 30 31 4F 4B 03 06 7F",
+        "02 30 31 52 43 20 30 33 20 30 30 30 31 30 31 35 30 03 15 7F",
+    ];
+    let after = walk(bench_record(), &stream, 200, (34, 3, &replies));
+    assert_eq!(after, ask(bench_record(), "PC 032 10150", "OK"));
+    // An answer needs 64 bytes: 12 + 8 + 64 for the third.
+    for (room, taken, answered) in [(63, 0, 0), (64, 8, 1), (75, 8, 1), (76, 26, 2), (83, 26, 2)] {
+        let expected = (taken, answered, &replies[..answered]);
+        let after = walk(bench_record(), &stream, room, expected);
+        assert_eq!(after.changed, answered == 2);
+    }
+    walk(bench_record(), &stream, 84, (34, 3, &replies));
+}
+
+#[test]
+fn several_frames_and_what_is_passed_over() {
+    // Two bytes that are none of a frame, another address, a wrong check, EQ, and EQ cut.
+    let stream = format!("41 0D {OTHER_ADDRESS} {WRONG_CHECK} {EQ} 02 30 31 45");
+    walk(bench_record(), &stream, 64, (26, 1, &[EQ_REPLY]));
+    // No room is needed up to where an answer is due.
+    for room in [0, 63] {
+        walk(bench_record(), &stream, room, (18, 0, &[]));
+    }
+    // A break, whose last byte is an STX.
+    walk(
+        bench_record(),
+        &format!("02 30 31 {EQ}"),
+        64,
+        (11, 1, &[EQ_REPLY]),
+    );
+}
+
+#[test]
+fn several_frames_with_stx_in_the_check() {
+    let both = [NO00, EQ_REPLY];
+    walk(bench_record(), &format!("{AA} {EQ}"), 80, (16, 2, &both));
+    // Its PAD lost, the check begins a frame.
+    let inside = "02 30 31 41 41 03 02 30 31 45 51 03 16 7F";
+    walk(bench_record(), inside, 64, (14, 1, &[EQ_REPLY]));
+    walk(bench_record(), &inside[..3 * 13 - 1], 64, (6, 0, &[]));
+    // A text that is too short, in whose followers a frame begins.
+    let short = format!("02 03 {EQ}");
+    walk(bench_record(), &short, 64, (10, 1, &[EQ_REPLY]));
+}
+
+#[test]
+fn several_frames_cut_by_the_end() {
+    for cut in ["02", "02 30 31", "02 03", "02 03 16", "02 30 32 45 51 03"] {
+        walk(bench_record(), cut, 64, (0, 0, &[]));
+        let behind = format!("{EQ} 7F {cut}");
+        walk(bench_record(), &behind, 64, (9, 1, &[EQ_REPLY]));
+    }
+    walk(bench_record(), "02 03 16 7F", 64, (4, 0, &[]));
+    // The longest frame, "01EQ " and 55 zeros, at each of its last bytes.
+    let text = format!("02 30 31 45 51 20{}", " 30".repeat(55));
+    let refusal = "02 30 31 4E 4F 30 31 03 02 7F";
+    for undecided in [text.clone(), format!("{text} 03"), format!("{text} 03 06")] {
+        walk(bench_record(), &undecided, 64, (0, 0, &[]));
+    }
+    let longest = format!("{text} 03 06 7F");
+    walk(bench_record(), &longest, 64, (64, 1, &[refusal]));
+    // A 61st text byte is a break, and so is what is no text byte.
+    walk(bench_record(), &format!("{text} 30"), 64, (62, 0, &[]));
+    walk(bench_record(), &format!("{text} 7F"), 64, (62, 0, &[]));
+    walk(bench_record(), "02 30 1F", 64, (3, 0, &[]));
+}
+
+#[test]
+fn several_frames_to_a_record_that_is_not_valid() {
+    let invalid = Record {
+        recipe: 0,
+        ..bench_record()
+    };
+    let (mut record, mut reply) = (invalid, [0xEE; 64]);
+    let report = several::answer_all(&mut record, &bytes(EQ), &mut reply, Fault::None);
+    assert_eq!((report, record, reply), (None, invalid, [0xEE; 64]));
 }
 
 /// What a listed parameter shows, and that a write changes it and no other.

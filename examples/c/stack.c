@@ -13,15 +13,16 @@ static unsigned char stack[16 * KHUYAPESH_STACK];
 static ucontext_t caller, callee;
 static int expected = 1;
 
-/* Every function, and requests that are read, written and refused, their replies recorded and judged. */
+/* Every function, and requests that are read, written and refused, their replies recorded and judged; then the same requests
+ * end to end. */
 static void work(void)
 {
     static const char *const texts[] = {"01EQ", "01RS", "01RC", "01PC 032 10150", "01XC 011 0", "01SB 500", "01SA", "01QQ",
                                         "01EA", "01AR"};
     static uint8_t stored[KHUYAPESH_STORED_LENGTH], copy[KHUYAPESH_STORED_LENGTH];
     static uint8_t request[KHUYAPESH_FRAME_ROOM], reply[KHUYAPESH_FRAME_ROOM], text[KHUYAPESH_FRAME_ROOM];
-    static uint8_t recording[2048];
-    size_t recorded = 5, place, count, index;
+    static uint8_t recording[2048], stream[1024], replies[1024];
+    size_t recorded = 5, streamed = 0, place, count, index, taken, answered, written;
 
     khuyapesh_stored(copy, 0, stored, sizeof stored);
     for (index = 0; index < sizeof texts / sizeof *texts; index++) {
@@ -35,12 +36,17 @@ static void work(void)
         recording[recorded] = (uint8_t)got;
         memcpy(recording + recorded + 1, reply, got);
         recorded += 1 + got;
+        memcpy(stream + streamed, request, sent);
+        streamed += sent;
     }
     recording[0] = 1;
     recording[1] = (uint8_t)(recorded >> 8);
     recording[2] = (uint8_t)recorded;
     recording[3] = 1;
     expected &= khuyapesh_judge(recording, recorded, &place, &count) == KHUYAPESH_FITS;
+    expected &= khuyapesh_several(stored, sizeof stored, stream, streamed, replies, sizeof replies, &taken, &answered,
+                                  &written) == KHUYAPESH_DONE;
+    expected &= taken == streamed && answered == index;
     expected &= khuyapesh_panel(KHUYAPESH_PULSES, 500, stored, sizeof stored) == KHUYAPESH_DONE;
     expected &= khuyapesh_panel(KHUYAPESH_ALARM_ON, 19, stored, sizeof stored) == KHUYAPESH_DONE;
     expected &= khuyapesh_stored(stored, sizeof stored, copy, sizeof copy) == KHUYAPESH_DONE;

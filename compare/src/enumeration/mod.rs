@@ -1,6 +1,6 @@
 //! What is enumerated and not sampled: every refusal against every phase, keypad, access and level,
 //! every combination of damages to a frame, every byte of a stored form, every parameter code, every
-//! alarm, every parameter rewritten, every pair of telling exchanges.
+//! alarm, every parameter rewritten, every pair of telling exchanges, every cut of a stream.
 
 mod alarms;
 mod calls;
@@ -9,6 +9,7 @@ mod frames;
 mod parameters;
 mod recordings;
 mod records;
+mod several;
 
 use crate::comparison::{Comparison, Difference};
 use crate::frame::{self, Kind};
@@ -30,6 +31,7 @@ pub fn enumerate(comparison: &mut Comparison) -> Result<(), Difference> {
     frames::damaged_frames(comparison)?;
     frames::request_bytes(comparison)?;
     frames::host_side(comparison)?;
+    several::several(comparison)?;
     records::panel_events(comparison)?;
     records::stored_forms(comparison)?;
     alarms::alarm_calls(comparison)?;

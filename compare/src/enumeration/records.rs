@@ -112,6 +112,7 @@ fn wrong_together(comparison: &mut Comparison, whole: &[u8]) -> Result<(), Diffe
             for (kind, room) in [(0, 63), (0, 64), (2, 64)] {
                 comparison.call(kind, &form, &another_address, &buffer(room))?;
             }
+            comparison.several(&form, &another_address, &buffer(63))?;
         }
     }
     Ok(())

@@ -5,3 +5,4 @@ pub mod recordings;
 pub mod records;
 pub mod requests;
 pub mod stored_forms;
+pub mod streams;

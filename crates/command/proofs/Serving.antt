@@ -22,6 +22,8 @@ use Rattle.command.specs.declared.Writing.{Writing}
 use Rattle.command.specs.declared.Writing.the-variants as writing
 use Rattle.command.specs.declared.Request.{Request}
 use Rattle.command.specs.declared.Request.the-variants as request
+use Rattle.command.specs.declared.Effect.{Effect}
+use Rattle.command.specs.declared.Effect.the-variants as effect
 use Rattle.command.specs.declared.Refusal.{Refusal}
 use Rattle.command.specs.declared.Decision.{Decision}
 use Rattle.command.specs.declared.Decision.the-variants.{Accepted, Refused}
@@ -29,7 +31,7 @@ use Rattle.command.specs.declared.Phases.{Phases}
 use Rattle.command.specs.declared.Guards.{Guards}
 use Rattle.command.specs.Commands.{placeNumber, placeFor, Reply, acknowledged, Change, applied, rowOf}
 use Rattle.command.specs.Answer.{Verdict, NO, accepted}
-use Rattle.command.specs.Request.{Guard, guardsIn, guardsOf, guarded, andThen, replyOf, changesOf, Answered, no, shows, servedBy, servedOf, refusalNumber, decisionAs, readingAs, writingAs, requestAs, keypadGuard, phaseGuard, alarmGuard, keypadGuards, levelGuards, phaseGuards, alarmGuards, plainGuards, guardsAs}
+use Rattle.command.specs.Request.{Guard, guardsIn, guardsOf, guarded, andThen, replyOf, changesOf, Answered, no, shows, servedBy, servedOf, refusalNumber, decisionAs, readingAs, writingAs, requestAs, effectAs, keypadGuard, phaseGuard, alarmGuard, keypadGuards, levelGuards, phaseGuards, alarmGuards, plainGuards, guardsAs}
 
 -- ---- the place of a code
 pub place-found : (p i : ℕ) (q : Place) → q ≡ placeOf p → q ≡ At i → i ≡ placeFor p
@@ -197,10 +199,9 @@ module _ (q : Writing) (r : Record) (g : Guards) (d : Decision) (e : guardsAs (r
   decided-so : decisionAs d ≡ guarded (guardsOf (r .access) (writingAs q)) r
   decided-so = v ∙ ap (λ (gs : List Guard). guarded gs r) e
 
-  pub write-accepted : (s : Record) → d ≡ Accepted → s ≡ applied (changesOf (writingAs q)) r
-      → _≡_ {A = Answered × Record} (shows acknowledged, s) (servedOf (writingAs q) r)
+  pub write-accepted : d ≡ Accepted → _≡_ {A = Answered × Record} (shows acknowledged, applied (changesOf (writingAs q)) r) (servedOf (writingAs q) r)
   unfolding servedOf
-  write-accepted s f w = simp (sym decided-so ∙ ap decisionAs f) (ap (λ (x : Record). (shows acknowledged, x)) w ∙ ap (λ (x : Reply). (shows x, applied (changesOf (writingAs q)) r)) (sym (acknowledges q)))
+  write-accepted f = simp (sym decided-so ∙ ap decisionAs f) (ap (λ (x : Reply). (shows x, applied (changesOf (writingAs q)) r)) (sym (acknowledges q)))
 
   pub write-refused : (k : Refusal) → d ≡ Refused k → _≡_ {A = Answered × Record} (no (refusalNumber k), r) (servedOf (writingAs q) r)
   unfolding servedOf
@@ -245,3 +246,16 @@ pub ruleset storing = (value-stored, value-beyond, level-stored, level-beyond)
 pub ruleset write-serving = (write-accepted, write-refused)
 
 pub ruleset requesting = (refusal-served, read-served, write-served)
+
+-- an effect by its cases
+module _ (e : Effect) (r : Record) where
+  effect-as : (k : Effect) → e ≡ k → effectAs k r ≡ effectAs e r
+  effect-as k f = ap (λ (x : Effect). effectAs x r) (sym f)
+
+  pub effect-none : e ≡ effect.Nothing → r ≡ effectAs e r
+  effect-none f = effect-as effect.Nothing f
+
+  pub effect-written : (q : Writing) (s : Record) → e ≡ effect.Write q → s ≡ applied (changesOf (writingAs q)) r → s ≡ effectAs e r
+  effect-written q s f w = w ∙ effect-as (effect.Write q) f
+
+pub ruleset carrying = (effect-none, effect-written)

@@ -21,6 +21,8 @@ use Rattle.command.specs.declared.Refusal.the-variants as refusal
 use Rattle.command.specs.declared.Decision.{Decision}
 use Rattle.command.specs.declared.Decision.the-variants as decision
 use Rattle.command.specs.declared.Answer.{Answer}
+use Rattle.command.specs.declared.Effect.{Effect}
+use Rattle.command.specs.declared.Effect.the-variants as effect
 use Rattle.command.specs.declared.Answer.the-variants as answer
 use Rattle.command.specs.declared.Phases.{Phases}
 use Rattle.command.specs.declared.Phases.the-variants as phases
@@ -174,6 +176,11 @@ abbrev pub answerAs : Answer → Answered
 answerAs (answer.No k) = no (refusalNumber k)
 answerAs (answer.Shows q) = shows (replyOf (readingAs q))
 answerAs answer.Ok = shows acknowledged
+
+-- the record afterwards
+abbrev pub effectAs : Effect → Record → Record
+effectAs effect.Nothing r = r
+effectAs (effect.Write q) r = applied (changesOf (writingAs q)) r
 
 -- ---- guards
 abbrev pub keypadGuard : Guard

@@ -24,7 +24,7 @@ ghost use Rattle.base.specs.Test.{pick, member};
 ghost use Rattle.command.specs.Commands.{RT, PC, XC, NR, SB, RE, nothing, aPlace, placeFor, applied};
 ghost use Rattle.command.specs.Refusals.{listed};
 ghost use Rattle.command.specs.Answer.{NO, accepted};
-ghost use Rattle.command.specs.Request.{refused, numbersOf, whole, askedFor, askedIn, askedWith, guardsOf, guarded, andThen, plainGuards, keypadGuards, levelGuards, phaseGuards, alarmGuards, guardsAs, changesOf, servedOf, refusalNumber, decisionAs, requestAs, writingAs, answerAs};
+ghost use Rattle.command.specs.Request.{refused, numbersOf, whole, askedFor, askedIn, askedWith, guardsOf, guarded, andThen, plainGuards, keypadGuards, levelGuards, phaseGuards, alarmGuards, guardsAs, changesOf, servedOf, refusalNumber, decisionAs, requestAs, writingAs, answerAs, effectAs};
 
 // What a request asks to be shown; a parameter is given by its place.
 pub enum Reading {
@@ -590,7 +590,7 @@ fn with_level(mut r: Record, place: usize, level: u8) -> Record
     r
 }
 
-fn apply(mut r: Record, request: Writing) -> Record
+pub fn apply(mut r: Record, request: Writing) -> Record
     ensures { λ s. ⌜ s ≡ applied (changesOf (writingAs request)) r ⌝ }
 {
     match request {
@@ -616,43 +616,55 @@ fn apply(mut r: Record, request: Writing) -> Record
     }
 }
 
-// ---- a request served: the answer, and the record afterwards
+// ---- a request served: the answer, and the effect that the record has still to take
+pub enum Effect {
+    Nothing,
+    Write(Writing),
+}
+
 pub struct Served {
     pub answer: Answer,
-    pub after: Record,
+    pub effect: Effect,
 }
 
 fn serve_write(r: Record, request: Writing) -> Served
-    ensures { λ s. ⌜ (answerAs (s .answer), s .after) ≡ servedOf (writingAs request) r ⌝ }
+    ensures { λ s. ⌜ (answerAs (s .answer), effectAs (s .effect) r) ≡ servedOf (writingAs request) r ⌝ }
 {
     match by_record(r, guards_of(r.access, request)) {
-        Decision::Accepted => {
-            let after = apply(r, request);
-            Served {
-                answer: Answer::Ok,
-                after: after,
-            }
-        }
+        Decision::Accepted => Served {
+            answer: Answer::Ok,
+            effect: Effect::Write(request),
+        },
         Decision::Refused(refusal) => Served {
             answer: Answer::No(refusal),
-            after: r,
+            effect: Effect::Nothing,
         },
     }
 }
 
-// Any request. A refusal hands the record back as it was.
+// Any request. A refusal and a read have no effect.
 pub fn serve(r: Record, request: Request) -> Served
-    ensures { λ s. ⌜ (answerAs (s .answer), s .after) ≡ servedOf (requestAs request) r ⌝ }
+    ensures { λ s. ⌜ (answerAs (s .answer), effectAs (s .effect) r) ≡ servedOf (requestAs request) r ⌝ }
 {
     match request {
         Request::Refused(refusal) => Served {
             answer: Answer::No(refusal),
-            after: r,
+            effect: Effect::Nothing,
         },
         Request::Read(reading) => Served {
             answer: Answer::Shows(reading),
-            after: r,
+            effect: Effect::Nothing,
         },
         Request::Write(writing) => serve_write(r, writing),
+    }
+}
+
+// The record afterwards.
+pub fn carry_out(r: Record, effect: Effect) -> Record
+    ensures { λ s. ⌜ s ≡ effectAs effect r ⌝ }
+{
+    match effect {
+        Effect::Nothing => r,
+        Effect::Write(request) => apply(r, request),
     }
 }

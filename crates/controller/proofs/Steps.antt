@@ -28,13 +28,14 @@ use Rattle.command.specs.declared.Request.{Request}
 use Rattle.command.specs.declared.Served.{Served}
 use Rattle.text.specs.Word.{digits}
 use Rattle.command.specs.Answer.{replyText, recordAfter}
-use Rattle.command.specs.Request.{Asked, askedIn, Answered, servedOf, requestAs, answerAs}
+use Rattle.command.specs.Request.{Asked, askedIn, Answered, servedOf, requestAs, answerAs, effectAs}
 use Rattle.command.proofs.Agree.{answer-by-steps, record-by-steps}
 use Rattle.reply.specs.Reply.{textFor, writtenOf}
 use Rattle.reply.proofs.Laws.{served-answers, text-legal}
 use Rattle.controller.specs.declared.Called.{Called}
+use Rattle.controller.specs.declared.Replied.{Replied}
 use Rattle.controller.specs.declared.Answer.the-variants as answer
-use Rattle.controller.specs.Call.{Outcome, silent, replied, callOf, outcomeAs, silentAs}
+use Rattle.controller.specs.Call.{Outcome, silent, replied, replyOf, callOf, outcomeAs, silentAs}
 
 -- ---- the reply to a text
 
@@ -60,19 +61,19 @@ closed k x o ys b n y room low high legal size laid built =
     built ∙ (ap (λ (l : List ℕ). buildOf k (take n (drop 1 l)) l) back ∙ (ap (λ (l : List ℕ). buildOf k l held) text ∙ made)) in
     (ap (λ (p : Answer × List ℕ). p .0) all, ap (λ (p : Answer × List ℕ). p .1) all ∙ over-over (frameOf k x) (getD o 0 0 ∷ x) o longer)
 
--- what `answered` returns
-pub text-answered : (k : Kind) (t o ys b : List ℕ) (r : Record) (q : Request) (s : Served) (n m : ℕ) (f : Built) → 64 ≤ length o
-    → requestAs q ≡ askedIn t → (answerAs (s .answer), s .after) ≡ servedOf (requestAs q) r
+-- what `reply_to` returns
+pub reply-made : (k : Kind) (t o ys b : List ℕ) (r : Record) (q : Request) (s : Served) (n m : ℕ) (f : Built) → 64 ≤ length o
+    → requestAs q ≡ askedIn t → (answerAs (s .answer), effectAs (s .effect) r) ≡ servedOf (requestAs q) r
     → (n, ys) ≡ writtenOf (answerAs (s .answer)) r (take (length o - 1) (drop 1 o))
     → (builtAs f, b) ≡ buildOf k (take n (drop 1 (putMid 1 (length o - 1) o ys))) (putMid 1 (length o - 1) o ys)
-    → m ≡ lengthIn (builtAs f) → outcomeAs (answer.Reply m) (s .after) b ≡ replied k t r o
-unfolding writtenOf
-text-answered k t o ys b r q s n m f room e serve write build size =
-    let served : (answerAs (s .answer), s .after) ≡ servedOf (askedIn t) r = serve ∙ ap (λ (y : Asked). servedOf y r) e in
+    → m ≡ lengthIn (builtAs f) → outcomeAs (answer.Reply m) (effectAs (s .effect) r) b ≡ replyOf k r t o
+unfolding writtenOf replyOf
+reply-made k t o ys b r q s n m f room e serve write build size =
+    let served : (answerAs (s .answer), effectAs (s .effect) r) ≡ servedOf (askedIn t) r = serve ∙ ap (λ (y : Asked). servedOf y r) e in
     let a : Answered = servedOf (askedIn t) r .0 in
     let x : List ℕ = textFor a r in
     let answer-is : answerAs (s .answer) ≡ a = ap (λ (p : Answered × Record). p .0) served in
-    let record-is : s .after ≡ recordAfter t r = ap (λ (p : Answered × Record). p .1) served ∙ record-by-steps t r in
+    let record-is : effectAs (s .effect) r ≡ recordAfter t r = ap (λ (p : Answered × Record). p .1) served ∙ record-by-steps t r in
     let legal = text-legal a r (served-answers (askedIn t) r) in
     let long : 60 ≤ length (take (length o - 1) (drop 1 o)) = simp (length-take, length-drop) (omega arith) in
     let wrote : _≡_ {A = ℕ × List ℕ} (n, ys) (length x, over x (take (length o - 1) (drop 1 o))) =
@@ -81,7 +82,13 @@ text-answered k t o ys b r q s n m f room e serve write build size =
     (ap (λ (p : ℕ × List ℕ). p .0) wrote) (ap (λ (p : ℕ × List ℕ). p .1) wrote) build in
     let reported : m ≡ length (frameOf k (replyText t r)) = size ∙ (ap lengthIn (c .0) ∙ ap (λ (l : List ℕ). length (frameOf k l)) (text-by-steps t r)) in
     let left : b ≡ over (frameOf k (replyText t r)) o = c .1 ∙ ap (λ (l : List ℕ). over (frameOf k l) o) (text-by-steps t r) in
-    simp (record-is, reported, left)
+    simp (record-is, reported, left, le-leb 64 (length o) room)
+
+pub reply-short : (k : Kind) (r : Record) (t o : List ℕ) → length o < 64 → outcomeAs (answer.Silent silence.ShortReplyBuffer) r o ≡ replyOf k r t o
+unfolding replyOf
+reply-short k r t o h = simp (lt-leb 64 (length o) h)
+
+pub ruleset replying = (reply-short, reply-made)
 
 -- ---- the silences
 module _ (k : Kind) (r : Record) (q o : List ℕ) where
@@ -148,13 +155,17 @@ module _ (k : Kind) (r : Record) (q o : List ℕ) where
             let i : addressIn (textIn k q) ≡ d = addressed-named k q a d m e z .number in
             ap (λ (x : Called). outcomeAs (x .answer) (x .after) o) w ∙ sym (for-this ∙ simp (ne-eqb (addressIn (textIn k q)) (r .address) (λ f. h (sym i ∙ f))))
 
-        pub answered-call : (x : Outcome) → d ≡ r .address → x ≡ replied k (take (m + 1 - 1) (drop 1 q)) r o → x ≡ callOf k r q o
-        unfolding for-unit
-        answered-call x h w =
+        pub answered-call : (x : Replied) (u : Record) (b : List ℕ) → d ≡ r .address
+            → outcomeAs (x .answer) (effectAs (x .effect) r) b ≡ replyOf k r (take (m + 1 - 1) (drop 1 q)) o → u ≡ effectAs (x .effect) r
+            → outcomeAs (x .answer) u b ≡ callOf k r q o
+        unfolding for-unit replyOf
+        answered-call x u b h w v =
             let f = addressed-named k q a d m e z in
             let j : m + 1 - 1 ≡ m = omega arith in
             let t : take (m + 1 - 1) (drop 1 q) ≡ textIn k q = ap (λ (i : ℕ). take i (drop 1 q)) j ∙ found-text k q m (f .text) in
-            w ∙ (ap (λ (y : List ℕ). replied k y r o) t ∙ sym (for-this ∙ simp (eq-eqb (addressIn (textIn k q)) (r .address) (f .number ∙ h))))
+            let made : replyOf k r (textIn k q) o ≡ replied k (textIn k q) r o = simp (le-leb 64 (length o) room) in
+            ap (λ (s : Record). outcomeAs (x .answer) s b) v
+            ∙ (w ∙ (ap (λ (y : List ℕ). replyOf k r y o) t ∙ (made ∙ sym (for-this ∙ simp (eq-eqb (addressIn (textIn k q)) (r .address) (f .number ∙ h))))))
 
 -- the text lies within the request
 pub text-within : (k : Kind) (q : List ℕ) (a : Addressed) (d m : ℕ) → addressedAs a ≡ addressOf k q → a ≡ addressee.Unit d m → Sizes q m

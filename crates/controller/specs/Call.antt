@@ -38,6 +38,10 @@ replied k t r o =
       buffer = over (frameOf k (replyText t r)) o;
     }
 
+-- a text t that is for this unit: S2, or the reply
+unfoldable pub replyOf : Kind → Record → List ℕ → List ℕ → Outcome
+replyOf k r t o = unless (leb 64 (length o)) (silent 2 r o) (replied k t r o)
+
 -- "Silences, in this order"; q is the lent request, o the lent reply buffer
 unfoldable pub callOf : Kind → Record → List ℕ → List ℕ → Outcome
 callOf k r q o =

@@ -1,6 +1,6 @@
 -- What the code's returns give is what the definitions of specs/ say: one law for each return. Assumes nothing.
 use Prim.Native.Nat.{ℕ, _+_, _^_, _≤_, _<_}
-use mathlib.Core.Bool.{true, false}
+use mathlib.Core.Bool.{Bool, true, false}
 use mathlib.Core.Path.{_≡_, refl, sym, ap, subst, _∙_}
 use mathlib.Core.List.{List}
 use mathlib.Core.Logic.{⊎-elim}
@@ -9,6 +9,7 @@ use lib.Dec.{leb}
 use lib.ListN.{length}
 use borrow.Author.Tests.{eq-eqb, ne-eqb, le-leb, lt-leb, leb-true}
 use Rattle.base.proofs.Lists.{over-all}
+use Rattle.base.specs.Test.{unless}
 use Rattle.base.specs.Lists.{over}
 use Rattle.state.specs.declared.Record.{Record}
 use Rattle.state.specs.declared.Event.{Event}
@@ -27,7 +28,6 @@ use Rattle.stored.proofs.Versions.{by-versions}
 use Rattle.frame.specs.declared.Kind.{Kind}
 use Rattle.frame.specs.declared.Kind.the-variants.{Minicomputer, Terminal}
 use Rattle.frame.specs.declared.Silence.{Silence}
-use Rattle.frame.specs.declared.Silence.the-variants as silence
 use Rattle.frame.specs.declared.Built.{Built}
 use Rattle.frame.specs.declared.Built.the-variants as built
 use Rattle.frame.specs.declared.TextRead.{TextRead}
@@ -35,18 +35,25 @@ use Rattle.frame.specs.declared.TextRead.the-variants as text
 use Rattle.frame.specs.Frame.{tailOf}
 use Rattle.frame.specs.Numbers.{silenceNumber, lengthIn, builtAs, readAs}
 use Rattle.frame.specs.Answer as frame
-use Rattle.frame.proofs.Laws.{frame-length, built-framed, found-sizes, taken}
+use Rattle.frame.proofs.Laws.{silence-low, frame-length, built-framed, found-sizes, taken}
 use Rattle.controller.specs.declared.Answer as controller
 use Rattle.controller.specs.declared.Answer.the-variants.{Silent, Reply}
 use Rattle.controller.specs.Call.{Outcome, outcomeAs, callOf}
 use Rattle.controller.proofs.Theorems.{Silenced, Answered, every-input, call-keeps-valid}
+use Rattle.several.specs.declared.Answer as several
+use Rattle.several.specs.declared.Answer.the-variants as served
+use Rattle.several.specs.declared.Report.{Report}
+use Rattle.several.specs.Several.{Several, severalOf}
+use Rattle.several.specs.Answers as answers
+use Rattle.several.proofs.Theorems.{several-valid, several-heard}
 use Rattle.recording.specs.declared.Refusal as recording
 use Rattle.recording.specs.Form as form
 use Rattle.recording.specs.Statement as statement
 use Rattle.judging.specs.declared.Judgement.{Judgement}
 use Rattle.judging.specs.declared.Judgement.the-variants as judgement
 use Rattle.judging.specs.Judge.{judgementAs}
-use Rattle.exports.specs.Bytes.{silenceAnswer, storedAnswer, noSuch, hostAnswer, hostLeft, kindOf, eventOf, hasRoom, callLeft, callRead, callBytes, panelRead, panelBytes, storedBytes, buildBytes, readBytes, judgeNumbers}
+use Rattle.exports.specs.declared.Numbers.{Numbers}
+use Rattle.exports.specs.Bytes.{silenceAnswer, storedAnswer, noSuch, hostAnswer, hostLeft, kindOf, eventOf, hasRoom, openAnswer, openRead, openOf, inPlace, callLeft, callBytes, SeveralLeft, severalNumbers, severalAs, nothingTaken, severalLeft, severalBytes, panelBytes, storedBytes, buildBytes, readBytes, judgeNumbers}
 
 -- ---- kinds
 pub kind-minicomputer : (n : ℕ) → n ≡ 0 → Minicomputer ≡ kindOf n
@@ -101,15 +108,8 @@ module _ (n : ℕ) (o : List ℕ) where
 pub ruleset hosting = (build-none, read-none, build-answered, read-answered)
 
 -- ---- reading and writing stored bytes
-module _ (s : List ℕ) (a : Answer) (r : Record) (e : (answerAs a, r) ≡ stored.readOf s) where
-  pub read-whole : a ≡ Whole → stored.readOf s ≡ (done, r)
-  read-whole h = sym e ∙ ap (λ (y : Answer). (answerAs y, r)) h
-
-  read-refused : (w : Refusal) → a ≡ Refused w → stored.readOf s ≡ (K (refusalNumber w), r)
-  read-refused w h = sym e ∙ ap (λ (y : Answer). (answerAs y, r)) h
-
-  record-valid : valid r ≡ true
-  record-valid = ap (λ (p : stored.Outcome × Record). valid (p .1)) e ∙ read-valid s
+pub record-valid : (s : List ℕ) (a : stored.Outcome) (r : Record) → stored.readOf s ≡ (a, r) → valid r ≡ true
+record-valid s a r e = ap (λ (p : stored.Outcome × Record). valid (p .1)) (sym e) ∙ read-valid s
 
 -- what writing a valid record leaves
 written : (r : Record) (o b : List ℕ) (w : Written) → valid r ≡ true → storedLength current ≤ length o → (writtenAs w, b) ≡ writeOf r o → b ≡ over (storedForm r) o
@@ -117,28 +117,6 @@ unfolding writeOf
 written r o b w v l e =
     let d : writeOf r o ≡ (done, over (storedForm r) o) = simp (v, le-leb _ _ l) in
     ap (λ (p : stored.Outcome × List ℕ). p .1) (e ∙ d)
-
--- stored bytes that have room for the form that is written are of the version that is
-whole-room : (s : List ℕ) (r : Record) → stored.readOf s ≡ (done, r) → hasRoom s ≡ true → length s ≡ storedLength current
-unfolding storedLength
-whole-room s r e h =
-    let t = read-tells s r e in
-    let version : ℕ = stored.versionOf (length s) in
-    let low = leb-true (storedLength current) (length s) h in
-    let high = leb-true (storedLength version) (storedLength current) (by-versions (λ v. leb (storedLength v) (storedLength current)) refl version (t .known)) in
-    let long : length s ≡ storedLength version = t .long in
-    omega arith
-
--- in place of stored bytes that were read
-replaced : (r : Record) (s b : List ℕ) (w : Written) → valid r ≡ true → length s ≡ storedLength current → (writtenAs w, b) ≡ writeOf r s → b ≡ storedForm r
-replaced r s b w v l e = written r s b w v (omega arith) e ∙ over-all (storedForm r) s (omega (arith, form-length r))
-
--- whether a buffer has room
-no-room : (o : List ℕ) → length o < 180 → hasRoom o ≡ false
-no-room o h = simp stored-180 (lt-leb 180 (length o) h)
-
-pub room-for : (o : List ℕ) → 180 ≤ length o → hasRoom o ≡ true
-room-for o h = simp stored-180 (le-leb 180 (length o) h)
 
 -- ---- `khuyapesh_stored`
 pub stored-short : (s o : List ℕ) → length o < 180 → (206, o) ≡ storedBytes s o
@@ -150,10 +128,96 @@ pub stored-written : (s o b : List ℕ) (a : Answer) (r : Record) (w : Written) 
 unfolding storedBytes
 stored-written s o b a r w x h e d q =
     let l : storedLength current ≤ length o = omega (arith, stored-180) in
-    ap (λ (y : List ℕ). (x, y)) (written r o b w (record-valid s a r e) l d) ∙ (ap (λ (y : ℕ). (y, over (storedForm r) o)) q
+    ap (λ (y : List ℕ). (x, y)) (written r o b w (record-valid s (answerAs a) r (sym e)) l d) ∙ (ap (λ (y : ℕ). (y, over (storedForm r) o)) q
     ∙ (ap (λ (p : stored.Outcome × Record). (storedAnswer (p .0), over (storedForm (p .1)) o)) e ∙ simp (le-leb _ _ l)))
 
 pub ruleset storing = (stored-short, stored-written)
+
+-- ---- a record that is lent to be written in its place
+
+-- by what was read
+pub open-read : (s : List ℕ) (x : stored.Outcome × Record) → stored.readOf s ≡ x → openOf s ≡ openRead x (hasRoom s)
+unfolding openOf
+open-read s x e = ap (λ (p : stored.Outcome × Record). openRead p (hasRoom s)) e
+
+-- the returns of `open_answer`
+module _ (a : Answer) (n : ℕ) where
+  pub open-refused : (w : Refusal) (x : ℕ) → a ≡ Refused w → x ≡ storedAnswer (K (refusalNumber w)) → x ≡ openAnswer (answerAs a) (leb (storedLength current) n)
+  open-refused w x h q = q ∙ sym (ap (λ (b : Answer). openAnswer (answerAs b) (leb (storedLength current) n)) h)
+
+  by-room : (b : Bool) → a ≡ Whole → leb (storedLength current) n ≡ b → unless b 206 0 ≡ openAnswer (answerAs a) (leb (storedLength current) n)
+  by-room b h e = sym (ap (λ (y : Answer). openAnswer (answerAs y) (leb (storedLength current) n)) h ∙ ap (λ (y : Bool). unless y 206 0) e)
+
+  pub open-no-room : a ≡ Whole → n < 180 → 206 ≡ openAnswer (answerAs a) (leb (storedLength current) n)
+  open-no-room h l = by-room false h (simp stored-180 (lt-leb 180 n l))
+
+  pub open-whole : a ≡ Whole → 180 ≤ n → 0 ≡ openAnswer (answerAs a) (leb (storedLength current) n)
+  open-whole h l = by-room true h (simp stored-180 (le-leb 180 n l))
+
+pub ruleset opening = (open-refused, open-no-room, open-whole)
+
+-- what was read, and its answer
+opened-read : (s : List ℕ) (a : Answer) (r : Record) → (answerAs a, r) ≡ stored.readOf s → (x : ℕ) → x ≡ openAnswer (answerAs a) (hasRoom s) → (x, r) ≡ openOf s
+opened-read s a r f x g = ap (λ (n : ℕ). (n, r)) g ∙ sym (open-read s (answerAs a, r) (sym f))
+
+-- what is then left, whatever it is
+module _ {A : Type 0} (s : List ℕ) (refusal : ℕ → A) (on : Record → A) (n : ℕ) (r : Record) (e : (n, r) ≡ openOf s) where
+  left-so : inPlace (n, r) refusal on ≡ inPlace (openOf s) refusal on
+  left-so = ap (λ (p : ℕ × Record). inPlace p refusal on) e
+
+  refused-so : (n ≡ 0 → ⊥) → refusal n ≡ inPlace (openOf s) refusal on
+  refused-so h = simp (ne-eqb n 0 h) at left-so
+
+  opened-so : n ≡ 0 → on r ≡ inPlace (openOf s) refusal on
+  opened-so h = simp (eq-eqb n 0 h) at left-so
+
+opened : (s : List ℕ) (n : ℕ) (r : Record) → (n, r) ≡ openOf s → n ≡ 0 → openOf s ≡ (0, r)
+opened s n r e h = sym e ∙ ap (λ (m : ℕ). (m, r)) h
+
+pub opened-record : (s : List ℕ) (a : Answer) (r : Record) → (answerAs a, r) ≡ stored.readOf s → (x : ℕ) → x ≡ openAnswer (answerAs a) (hasRoom s) → x ≡ 0 → openOf s ≡ (0, r)
+opened-record s a r f x g = opened s x r (opened-read s a r f x g)
+
+-- the cases
+pub opened-by : (s : List ℕ) (P : ℕ × Record → Type 0) → ((n : ℕ) (r : Record) → stored.readOf s ≡ (K n, r) → P (200 + n, r))
+    → ((r : Record) → stored.readOf s ≡ (done, r) → (b : Bool) → hasRoom s ≡ b → P (unless b 206 0, r)) → P (openOf s)
+unfolding openOf
+opened-by s P refused whole = go (stored.readOf s) refl
+  where
+    go : (x : stored.Outcome × Record) → stored.readOf s ≡ x → P (openRead x (hasRoom s))
+    go (K n, r) e = refused n r e
+    go (done, r) e = whole r e (hasRoom s) refl
+
+-- what an answer of 0 tells: the record was read whole, and there is room
+open-tells : (s : List ℕ) (r : Record) → openOf s ≡ (0, r) → (stored.readOf s ≡ (done, r)) × (hasRoom s ≡ true)
+open-tells s r = opened-by s (λ (p : ℕ × Record). p ≡ (0, r) → (stored.readOf s ≡ (done, r)) × (hasRoom s ≡ true)) (λ n t e z. refused (200 + n) t (omega arith) z) whole
+  where
+    refused : (n : ℕ) (t : Record) → 1 ≤ n → _≡_ {A = ℕ × Record} (n, t) (0, r) → (stored.readOf s ≡ (done, r)) × (hasRoom s ≡ true)
+    refused n t l z = let y : n ≡ 0 = ap (λ (p : ℕ × Record). p .0) z in absurd (omega arith)
+
+    whole : (t : Record) → stored.readOf s ≡ (done, t) → (b : Bool) → hasRoom s ≡ b → _≡_ {A = ℕ × Record} (unless b 206 0, t) (0, r)
+        → (stored.readOf s ≡ (done, r)) × (hasRoom s ≡ true)
+    whole t e true f z = (e ∙ ap (λ (p : ℕ × Record). (done, p .1)) z, f)
+    whole t e false f z = refused 206 t (omega arith) z
+
+-- so the record is valid, its bytes are of the version that is written, and a valid record takes their place
+module _ (s : List ℕ) (r : Record) (h : openOf s ≡ (0, r)) where
+  opened-valid : valid r ≡ true
+  opened-valid = record-valid s done r (open-tells s r h .0)
+
+  opened-length : length s ≡ storedLength current
+  unfolding storedLength
+  opened-length =
+      let t = read-tells s r (open-tells s r h .0) in
+      let version : ℕ = stored.versionOf (length s) in
+      let low = leb-true (storedLength current) (length s) (open-tells s r h .1) in
+      let high = leb-true (storedLength version) (storedLength current) (by-versions (λ v. leb (storedLength v) (storedLength current)) refl version (t .known)) in
+      let long : length s ≡ storedLength version = t .long in
+      omega arith
+
+  replaced : (t : Record) (b : List ℕ) (w : Written) → valid t ≡ true → (writtenAs w, b) ≡ writeOf t s → b ≡ storedForm t
+  replaced t b w v e =
+      let l = opened-length in
+      written t s b w v (omega arith) e ∙ over-all (storedForm t) s (omega (arith, form-length t))
 
 -- ---- `khuyapesh_panel`
 module _ (n p : ℕ) (s : List ℕ) where
@@ -161,39 +225,24 @@ module _ (n p : ℕ) (s : List ℕ) where
   unfolding panelBytes
   panel-none h = simp (lt-leb n 6 h)
 
-  module _ (low : n ≤ 6) (a : Answer) (r : Record) (e : (answerAs a, r) ≡ stored.readOf s) where
-    read-so : (q : stored.Outcome × Record) → stored.readOf s ≡ q → panelRead (eventOf n p) q s ≡ panelBytes n p s
+  module _ (low : n ≤ 6) (a : Answer) (r : Record) (e : (answerAs a, r) ≡ stored.readOf s) (x : ℕ) (z : x ≡ openAnswer (answerAs a) (hasRoom s)) where
+    pub panel-refused : (x ≡ 0 → ⊥) → (x, s) ≡ panelBytes n p s
     unfolding panelBytes
-    read-so q h = ap (λ (y : stored.Outcome × Record). panelRead (eventOf n p) y s) (sym h) ∙ simp (le-leb n 6 low)
+    panel-refused h = simp (le-leb n 6 low) (refused-so s (λ m. (m, s)) (λ y. (0, storedForm (after (eventOf n p) y))) x r (opened-read s a r e x z) h)
 
-    pub panel-refused : (w : Refusal) (x : ℕ) → a ≡ Refused w → x ≡ storedAnswer (K (refusalNumber w)) → (x, s) ≡ panelBytes n p s
-    panel-refused w x h q = ap (λ (y : ℕ). (y, s)) q ∙ read-so (K (refusalNumber w), r) (read-refused s a r e w h)
-
-    pub panel-no-room : a ≡ Whole → length s < 180 → (206, s) ≡ panelBytes n p s
-    panel-no-room h l = simp (no-room s l) at (read-so (done, r) (read-whole s a r e h))
-
-    pub panel-stored : (v : Event) (t : Record) (w : Written) (b : List ℕ) → a ≡ Whole → 180 ≤ length s → v ≡ eventOf n p → t ≡ after v r
+    pub panel-stored : (v : Event) (t : Record) (w : Written) (b : List ℕ) → x ≡ 0 → v ≡ eventOf n p → t ≡ after v r
         → (writtenAs w, b) ≡ writeOf t s → (0, b) ≡ panelBytes n p s
-    panel-stored v t w b h m i f d =
+    unfolding panelBytes
+    panel-stored v t w b h i f d =
         let g : t ≡ after (eventOf n p) r = f ∙ ap (λ (y : Event). after y r) i in
-        let k : valid t ≡ true = ap valid g ∙ after-kept r (record-valid s a r e) (eventOf n p) in
-        let room = room-for s m in
-        let l = whole-room s r (read-whole s a r e h) room in
-        ap (λ (y : List ℕ). (0, y)) (replaced t s b w k l d ∙ ap storedForm g) ∙ simp room at (read-so (done, r) (read-whole s a r e h))
+        let o : openOf s ≡ (0, r) = opened s x r (opened-read s a r e x z) h in
+        let k : valid t ≡ true = ap valid g ∙ after-kept r (opened-valid s r o) (eventOf n p) in
+        ap (λ (y : List ℕ). (0, y)) (replaced s r o t b w k d ∙ ap storedForm g)
+        ∙ simp (le-leb n 6 low) (opened-so s (λ m. (m, s)) (λ y. (0, storedForm (after (eventOf n p) y))) x r (opened-read s a r e x z) h)
 
-pub ruleset happening = (panel-none, panel-refused, panel-no-room, panel-stored)
+pub ruleset happening = (panel-none, panel-refused, panel-stored)
 
 -- ---- one call on a record
-silence-low : (w : Silence) → 1 ≤ silenceNumber w
-silence-low silence.InvalidRecord = omega arith
-silence-low silence.ShortReplyBuffer = omega arith
-silence-low silence.FrameLength = omega arith
-silence-low silence.Mark = omega arith
-silence-low silence.Check = omega arith
-silence-low silence.TextByte = omega arith
-silence-low silence.AddressOrCode = omega arith
-silence-low silence.OtherAddress = omega arith
-
 module _ (k : Kind) (r : Record) (q o : List ℕ) (a : controller.Answer) (t : Record) (b : List ℕ) (e : outcomeAs a t b ≡ callOf k r q o) where
   -- a silence leaves the buffer
   silent-buffer : 1 ≤ callOf k r q o .silence → callOf k r q o .buffer ≡ o
@@ -219,14 +268,12 @@ module _ (k : Kind) (r : Record) (q o : List ℕ) (a : controller.Answer) (t : R
         let c : m ≡ callOf k r q o .reported = ap (λ (y : Outcome). y .reported) heard in
         ⊎-elim (λ (x : Silenced k r q o). omega (arith, x .nothing)) (λ (x : Answered k r q o). omega (arith, x .high)) (every-input k r q o)
 
-    pub left-reply : (s d : List ℕ) (w : Written) → stored.readOf s ≡ (done, r) → hasRoom s ≡ true → (writtenAs w, d) ≡ writeOf t s → (m, (d, b)) ≡ callLeft (callOf k r q o) s o
+    pub left-reply : (s d : List ℕ) (w : Written) → openOf s ≡ (0, r) → (writtenAs w, d) ≡ writeOf t s → (m, (d, b)) ≡ callLeft (callOf k r q o) s o
     unfolding callLeft
-    left-reply s d w f g i =
-        let v : valid r ≡ true = ap (λ (p : stored.Outcome × Record). valid (p .1)) (sym f) ∙ read-valid s in
+    left-reply s d w f i =
         let j : t ≡ callOf k r q o .after = ap (λ (y : Outcome). y .after) heard in
-        let u : valid t ≡ true = ap valid j ∙ call-keeps-valid k r q o v in
-        let l = whole-room s r f g in
-        ap (λ (y : List ℕ). (m, (y, b))) (replaced t s d w u l i) ∙ ap (λ (y : Outcome). callLeft y s o) heard
+        let u : valid t ≡ true = ap valid j ∙ call-keeps-valid k r q o (opened-valid s r f) in
+        ap (λ (y : List ℕ). (m, (y, b))) (replaced s r f t d w u i) ∙ ap (λ (y : Outcome). callLeft y s o) heard
 
 pub ruleset calling = (left-silent, left-reply)
 
@@ -236,23 +283,50 @@ module _ (n : ℕ) (s q o : List ℕ) where
   unfolding callBytes
   call-none h = simp (lt-leb n 1 h)
 
-  module _ (low : n ≤ 1) (a : Answer) (r : Record) (e : (answerAs a, r) ≡ stored.readOf s) where
-    called-so : (p : stored.Outcome × Record) → stored.readOf s ≡ p → callRead (kindOf n) p s q o ≡ callBytes n s q o
+  module _ (low : n ≤ 1) (a : Answer) (r : Record) (e : (answerAs a, r) ≡ stored.readOf s) (x : ℕ) (z : x ≡ openAnswer (answerAs a) (hasRoom s)) where
+    pub call-refused : (x ≡ 0 → ⊥) → (x, (s, o)) ≡ callBytes n s q o
     unfolding callBytes
-    called-so p h = ap (λ (y : stored.Outcome × Record). callRead (kindOf n) y s q o) (sym h) ∙ simp (le-leb n 1 low)
+    call-refused h = simp (le-leb n 1 low) (refused-so s (λ m. (m, (s, o))) (λ t. callLeft (callOf (kindOf n) t q o) s o) x r (opened-read s a r e x z) h)
 
-    pub call-refused : (w : Refusal) (x : ℕ) → a ≡ Refused w → x ≡ storedAnswer (K (refusalNumber w)) → (x, (s, o)) ≡ callBytes n s q o
-    call-refused w x h i = ap (λ (y : ℕ). (y, (s, o))) i ∙ called-so (K (refusalNumber w), r) (read-refused s a r e w h)
+    pub call-answered : (k : Kind) (y : ℕ) (d b : List ℕ) → x ≡ 0 → k ≡ kindOf n → (y, (d, b)) ≡ callLeft (callOf k r q o) s o
+        → (y, (d, b)) ≡ callBytes n s q o
+    unfolding callBytes
+    call-answered k y d b h i f =
+        f ∙ (ap (λ (j : Kind). callLeft (callOf j r q o) s o) i
+        ∙ simp (le-leb n 1 low) (opened-so s (λ m. (m, (s, o))) (λ t. callLeft (callOf (kindOf n) t q o) s o) x r (opened-read s a r e x z) h))
 
-    pub call-no-room : a ≡ Whole → length s < 180 → (206, (s, o)) ≡ callBytes n s q o
-    call-no-room h l = simp (no-room s l) at (called-so (done, r) (read-whole s a r e h))
+pub ruleset serving = (call-none, call-refused, call-answered)
 
-    pub call-answered : (k : Kind) (x : ℕ) (d b : List ℕ) → a ≡ Whole → 180 ≤ length s → k ≡ kindOf n → (x, (d, b)) ≡ callLeft (callOf k r q o) s o
-        → (x, (d, b)) ≡ callBytes n s q o
-    call-answered k x d b h l i f =
-        f ∙ (ap (λ (y : Kind). callLeft (callOf y r q o) s o) i ∙ simp (room-for s l) at (called-so (done, r) (read-whole s a r e h)))
+-- ---- several frames on a record
+module _ (r : Record) (q o : List ℕ) (a : several.Answer) (t : Record) (b : List ℕ) (e : answers.severalAs a t b ≡ severalOf r q o) (s : List ℕ) (f : openOf s ≡ (0, r)) where
+  -- a record that was read is valid, so there is no silence
+  pub never-silent : (w : Silence) (x : Numbers) → a ≡ served.Silent w → severalAs x s b ≡ severalLeft (severalOf r q o) s o
+  never-silent w x h =
+      let c : silenceNumber w ≡ severalOf r q o .silence = ap (λ (y : several.Answer). answers.severalAs y t b .silence) (sym h) ∙ ap (λ (y : Several). y .silence) e in
+      absurd (omega (arith, silence-low w, several-heard r q o (opened-valid s r f)))
 
-pub ruleset serving = (call-none, call-refused, call-no-room, call-answered)
+  pub left-served : (p : Report) (d : List ℕ) (w : Written) → a ≡ served.Served p → (writtenAs w, d) ≡ writeOf t s
+      → severalNumbers 0 (p .taken) (p .answered) (p .written) d b ≡ severalLeft (severalOf r q o) s o
+  unfolding severalLeft
+  left-served p d w h i =
+      let c : answers.severalAs (served.Served p) t b ≡ severalOf r q o = ap (λ (y : several.Answer). answers.severalAs y t b) (sym h) ∙ e in
+      let j : t ≡ severalOf r q o .after = ap (λ (y : Several). y .after) c in
+      let u : valid t ≡ true = ap valid j ∙ several-valid r q o (opened-valid s r f) in
+      ap (λ (y : List ℕ). severalNumbers 0 (p .taken) (p .answered) (p .written) y b) (replaced s r f t d w u i) ∙ ap (λ (y : Several). severalLeft y s o) c
+
+pub ruleset hearing = (never-silent, left-served)
+
+-- ---- `khuyapesh_several`
+module _ (s q o : List ℕ) (a : Answer) (r : Record) (e : (answerAs a, r) ≡ stored.readOf s) (x : ℕ) (z : x ≡ openAnswer (answerAs a) (hasRoom s)) where
+  pub several-refused : (y : Numbers) → (x ≡ 0 → ⊥) → y ≡ record { answer = x; taken = 0; answered = 0; written = 0 } → severalAs y s o ≡ severalBytes s q o
+  unfolding severalBytes
+  several-refused y h f = ap (λ (z : Numbers). severalAs z s o) f ∙ refused-so s (λ m. nothingTaken m s o) (λ t. severalLeft (severalOf t q o) s o) x r (opened-read s a r e x z) h
+
+  pub several-answered : (y : SeveralLeft) → x ≡ 0 → y ≡ severalLeft (severalOf r q o) s o → y ≡ severalBytes s q o
+  unfolding severalBytes
+  several-answered y h f = f ∙ opened-so s (λ m. nothingTaken m s o) (λ t. severalLeft (severalOf t q o) s o) x r (opened-read s a r e x z) h
+
+pub ruleset taking = (several-refused, several-answered)
 
 -- ---- judging
 module _ (j : Judgement) (a : statement.Judgement) (e : judgementAs j ≡ a) where

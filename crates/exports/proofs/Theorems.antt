@@ -21,7 +21,7 @@ use Rattle.state.proofs.Kept.{after-kept}
 use Rattle.stored.specs.Layout.{Item, versions, current, items, headerWidth, slotsFrom, putAll}
 use Rattle.stored.specs.Form as stored
 use Rattle.stored.specs.Form.{K, done, numberOf, numbersIn, allFit, storedLength, versionOf, storedForm, writeOf, headerOf, lowRecord, takenFrom, bodyOf, afterHeader}
-use Rattle.stored.proofs.RoundTrip.{form-length, read-valid, read-written}
+use Rattle.stored.proofs.RoundTrip.{form-length, read-written}
 use Rattle.frame.specs.declared.Kind.{Kind}
 use Rattle.frame.specs.Frame.{allText, namesUnit, addressIn, frameOf, textIn, withinLimits, marksRight, checkRight}
 use Rattle.frame.specs.Numbers.{Answer, H, S, accepted, unit}
@@ -30,8 +30,10 @@ use Rattle.frame.proofs.Laws.{frame-length, tail-low, framed, found-sizes, take
 use Rattle.frame.proofs.RoundTrip.{read-built}
 use Rattle.controller.specs.Call.{Outcome, silent, replied, callOf}
 use Rattle.controller.proofs.Theorems.{Silenced, Answered, every-input, call-keeps-valid}
-use Rattle.exports.specs.Bytes.{silenceAnswer, storedAnswer, noSuch, hostLeft, isKind, kindOf, isEvent, eventOf, hasRoom, callLeft, callRead, callBytes, panelRead, panelBytes, storedBytes, buildBytes, readBytes}
-use Rattle.exports.proofs.Steps.{tail-high}
+use Rattle.several.specs.Several.{Several, severalOf}
+use Rattle.several.proofs.Theorems.{several-valid, several-heard}
+use Rattle.exports.specs.Bytes.{silenceAnswer, storedAnswer, noSuch, hostLeft, isKind, kindOf, isEvent, eventOf, hasRoom, openOf, inPlace, callLeft, callBytes, SeveralLeft, severalNumbers, nothingTaken, severalLeft, severalBytes, panelBytes, storedBytes, buildBytes, readBytes}
+use Rattle.exports.proofs.Steps.{tail-high, record-valid, open-read, opened-by}
 
 -- what holds of both holds of the one that a test leaves
 either : {A : Type 0} (P : A → Type 0) (b : Bool) (x y : A) → P x → P y → P (unless b x y)
@@ -87,9 +89,6 @@ read-known s = go (headerOf s) (header-known s)
 read-refusal : (s : List ℕ) (n : ℕ) (r : Record) → stored.readOf s ≡ (K n, r) → Within 1 4 n × (r ≡ lowRecord)
 read-refusal s n r e = subst Reading e (read-known s)
 
-read-so-valid : (s : List ℕ) (r : Record) → stored.readOf s ≡ (done, r) → valid r ≡ true
-read-so-valid s r e = ap (λ (p : stored.Outcome × Record). valid (p .1)) (sym e) ∙ read-valid s
-
 -- a stored form reads back as its record
 pub form-read : (r : Record) → valid r ≡ true → stored.readOf (storedForm r) ≡ (done, r)
 unfolding writeOf
@@ -99,6 +98,25 @@ form-read r v =
     let t : take (storedLength current) (storedForm r) ≡ storedForm r =
     ap (λ (n : ℕ). take n (storedForm r)) (sym (form-length r)) ∙ take-length (storedForm r) in
     ap stored.readOf (sym t) ∙ read-written r (storedForm r) (storedForm r) w
+
+-- ---- a record that is lent to be written in its place, whatever is done with it
+module _ {A : Type 0} (s : List ℕ) (refusal : ℕ → A) (on : Record → A) where
+  open-cases : (P : A → Type 0) → ((n : ℕ) → Stored n → P (refusal (200 + n))) → ((r : Record) → stored.readOf s ≡ (done, r) → P (on r))
+      → P (inPlace (openOf s) refusal on)
+  open-cases P refused opened =
+      opened-by s (λ (p : ℕ × Record). P (inPlace p refusal on)) (λ n r e. simp (ne-eqb (200 + n) 0 (λ z. omega arith)) (refused n (inl (read-refusal s n r e .0))))
+      (λ r e b f. either (λ (n : ℕ). P (inPlace (n, r) refusal on)) b 206 0 (refused 6 (inr refl)) (opened r e))
+
+  -- on bytes that are stored right, by their room
+  module _ (r : Record) (e : stored.readOf s ≡ (done, r)) where
+    read-so : inPlace (openOf s) refusal on ≡ inPlace (unless (hasRoom s) 206 0, r) refusal on
+    read-so = ap (λ (p : ℕ × Record). inPlace p refusal on) (open-read s (done, r) e)
+
+    with-room : hasRoom s ≡ true → inPlace (openOf s) refusal on ≡ on r
+    with-room room = simp room at read-so
+
+    without-room : hasRoom s ≡ false → inPlace (openOf s) refusal on ≡ refusal 206
+    without-room none = simp none at read-so
 
 -- ---- a valid record never meets S1
 never-first : (k : Kind) (r : Record) (q o : List ℕ) → valid r ≡ true → callOf k r q o .silence ≡ 1 → ⊥
@@ -136,13 +154,10 @@ module _ (kind : ℕ) (s q o : List ℕ) where
     left-silent h = simp (ne-eqb _ _ h)
 
     module _ (known : kind ≤ 1) (e : stored.readOf s ≡ (done, r)) where
-      read-so : callBytes kind s q o ≡ callRead (kindOf kind) (done, r) s q o
-      unfolding callBytes
-      read-so = simp (le-leb kind 1 known) (ap (λ (p : stored.Outcome × Record). callRead (kindOf kind) p s q o) e)
-
       module _ (room : hasRoom s ≡ true) where
         whole : callBytes kind s q o ≡ callLeft called s o
-        whole = simp room at read-so
+        unfolding callBytes
+        whole = simp (le-leb kind 1 known) (with-room s (λ n. (n, (s, o))) (λ t. callLeft (callOf (kindOf kind) t q o) s o) r e room)
 
         pub call-heard : called .silence ≡ 0 → callBytes kind s q o ≡ (called .reported, (storedForm (called .after), called .buffer))
         call-heard h = whole ∙ left-heard h
@@ -152,7 +167,8 @@ module _ (kind : ℕ) (s q o : List ℕ) where
 
       -- those of an older version meet K6, and all stays
       pub call-older : hasRoom s ≡ false → callBytes kind s q o ≡ (206, (s, o))
-      call-older none = simp none at read-so
+      unfolding callBytes
+      call-older none = simp (le-leb kind 1 known) (without-room s (λ n. (n, (s, o))) (λ t. callLeft (callOf (kindOf kind) t q o) s o) r e none)
 
   -- the cases of a call
   call-cases : (P : ℕ × (List ℕ × List ℕ) → Type 0) → P (noSuch, (s, o)) → ((n : ℕ) → Stored n → P (200 + n, (s, o)))
@@ -160,20 +176,18 @@ module _ (kind : ℕ) (s q o : List ℕ) where
       → ((r : Record) → stored.readOf s ≡ (done, r) → Answered (kindOf kind) r q o → P (called r .reported, (storedForm (called r .after), called r .buffer)))
       → P (callBytes kind s q o)
   unfolding callBytes
-  call-cases P none refused silenced heard = either P (isKind kind) (noSuch, (s, o)) (callRead (kindOf kind) (stored.readOf s) s q o) none (go (stored.readOf s) refl)
-    where
-      go : (x : stored.Outcome × Record) → stored.readOf s ≡ x → P (callRead (kindOf kind) x s q o)
-      go (K n, r) e = refused n (inl (read-refusal s n r e .0))
-      go (done, r) e =
-          either P (hasRoom s) (206, (s, o)) (callLeft (called r) s o) (refused 6 (inr refl))
-          (⊎-elim
-          (λ (x : Silenced (kindOf kind) r q o).
-          let l : 1 ≤ called r .silence = x .low in
-          let h : called r .silence ≤ 8 = x .high in
-          let z : called r .silence ≡ 1 → ⊥ = never-first (kindOf kind) r q o (read-so-valid s r e) in
-          subst P (sym (left-silent r (λ y. omega arith))) (silenced (called r .silence) (omega arith)))
-          (λ (x : Answered (kindOf kind) r q o). subst P (sym (left-heard r (x .heard))) (heard r e x))
-          (every-input (kindOf kind) r q o))
+  call-cases P none refused silenced heard =
+      either P (isKind kind) (noSuch, (s, o)) (inPlace (openOf s) (λ n. (n, (s, o))) (λ r. callLeft (called r) s o)) none
+      (open-cases s (λ n. (n, (s, o))) (λ r. callLeft (called r) s o) P refused
+      (λ r e.
+      ⊎-elim
+      (λ (x : Silenced (kindOf kind) r q o).
+      let l : 1 ≤ called r .silence = x .low in
+      let h : called r .silence ≤ 8 = x .high in
+      let z : called r .silence ≡ 1 → ⊥ = never-first (kindOf kind) r q o (record-valid s done r e) in
+      subst P (sym (left-silent r (λ y. omega arith))) (silenced (called r .silence) (omega arith)))
+      (λ (x : Answered (kindOf kind) r q o). subst P (sym (left-heard r (x .heard))) (heard r e x))
+      (every-input (kindOf kind) r q o)))
 
   -- "the reply's length", "or no such kind, then K1 to K4, then K6, then S2 to S8"; so 101 never comes back, and an answer below 100 is a reply
   pub call-numbers : Within 7 64 (callBytes kind s q o .0) ⊎ (Within 102 108 (callBytes kind s q o .0) ⊎ (StoredAnswer (callBytes kind s q o .0) ⊎ (callBytes kind s q o .0 ≡ 300)))
@@ -193,19 +207,63 @@ module _ (kind : ℕ) (s q o : List ℕ) where
       call-cases (λ (p : ℕ × (List ℕ × List ℕ)). p .0 < 100 → stored.readOf (p .1 .0) ≡ (done, callOf (kindOf kind) (stored.readOf s .1) q o .after))
       (λ h. absurd (omega arith)) (λ n w h. absurd (omega arith)) (λ n w h. absurd (omega arith))
       (λ r e x h.
-      form-read (called r .after) (call-keeps-valid (kindOf kind) r q o (read-so-valid s r e))
+      form-read (called r .after) (call-keeps-valid (kindOf kind) r q o (record-valid s done r e))
       ∙ ap (λ (y : stored.Outcome × Record). (done, callOf (kindOf kind) (y .1) q o .after)) (sym e))
+
+-- ---- `khuyapesh_several`
+module _ (s b o : List ℕ) where
+  module _ (r : Record) where
+    abbrev served : Several
+    served = severalOf r b o
+
+    abbrev servedLeft : SeveralLeft
+    servedLeft = severalNumbers 0 (served .taken) (served .answered) (served .written) (storedForm (served .after)) (served .buffer)
+
+    module _ (e : stored.readOf s ≡ (done, r)) where
+      -- a record that was read is valid, so there is no silence
+      left-served : severalLeft served s o ≡ servedLeft
+      unfolding severalLeft
+      left-served = simp (eq-eqb _ _ (several-heard r b o (record-valid s done r e)))
+
+      -- on bytes that are stored right, in the version that is written, it answers as `severalOf` says
+      pub several-served : hasRoom s ≡ true
+          → severalBytes s b o ≡ severalNumbers 0 (served .taken) (served .answered) (served .written) (storedForm (served .after)) (served .buffer)
+      unfolding severalBytes
+      several-served room = with-room s (λ n. nothingTaken n s o) (λ t. severalLeft (severalOf t b o) s o) r e room ∙ left-served
+
+  several-cases : (P : SeveralLeft → Type 0) → ((n : ℕ) → Stored n → P (nothingTaken (200 + n) s o))
+      → ((r : Record) → stored.readOf s ≡ (done, r) → P (servedLeft r)) → P (severalBytes s b o)
+  unfolding severalBytes
+  several-cases P refused answered =
+      open-cases s (λ n. nothingTaken n s o) (λ r. severalLeft (served r) s o) P refused (λ r e. subst P (sym (left-served r e)) (answered r e))
+
+  -- 0, or "K1 to K4, then K6"; so 101 never comes back
+  pub several-numbers : (severalBytes s b o .answer ≡ 0) ⊎ StoredAnswer (severalBytes s b o .answer)
+  several-numbers =
+      several-cases (λ (y : SeveralLeft). (y .answer ≡ 0) ⊎ StoredAnswer (y .answer)) (λ n w. inr (stored-answered n w)) (λ r e. inl refl)
+
+  -- "the three numbers are 0 and nothing else is changed"
+  pub several-keeps : 100 ≤ severalBytes s b o .answer → severalBytes s b o ≡ nothingTaken (severalBytes s b o .answer) s o
+  several-keeps =
+      several-cases (λ (y : SeveralLeft). 100 ≤ y .answer → y ≡ nothingTaken (y .answer) s o) (λ n w h. refl) (λ r e h. absurd (omega arith))
+
+  -- the stored bytes then read as the record after the last frame
+  pub several-stores : severalBytes s b o .answer ≡ 0 → stored.readOf (severalBytes s b o .stored) ≡ (done, severalOf (stored.readOf s .1) b o .after)
+  several-stores =
+      several-cases (λ (y : SeveralLeft). y .answer ≡ 0 → stored.readOf (y .stored) ≡ (done, severalOf (stored.readOf s .1) b o .after))
+      (λ n w h. absurd (omega arith))
+      (λ r e h.
+      form-read (served r .after) (several-valid r b o (record-valid s done r e))
+      ∙ ap (λ (y : stored.Outcome × Record). (done, severalOf (y .1) b o .after)) (sym e))
 
 -- ---- `khuyapesh_panel`
 module _ (event number : ℕ) (s : List ℕ) where
   panel-cases : (P : ℕ × List ℕ → Type 0) → P (noSuch, s) → ((n : ℕ) → Stored n → P (200 + n, s))
       → ((r : Record) → stored.readOf s ≡ (done, r) → P (0, storedForm (after (eventOf event number) r))) → P (panelBytes event number s)
   unfolding panelBytes
-  panel-cases P none refused stored-so = either P (isEvent event) (noSuch, s) (panelRead (eventOf event number) (stored.readOf s) s) none (go (stored.readOf s) refl)
-    where
-      go : (x : stored.Outcome × Record) → stored.readOf s ≡ x → P (panelRead (eventOf event number) x s)
-      go (K n, r) e = refused n (inl (read-refusal s n r e .0))
-      go (done, r) e = either P (hasRoom s) (206, s) (0, storedForm (after (eventOf event number) r)) (refused 6 (inr refl)) (stored-so r e)
+  panel-cases P none refused stored-so =
+      either P (isEvent event) (noSuch, s) (inPlace (openOf s) (λ n. (n, s)) (λ r. (0, storedForm (after (eventOf event number) r)))) none
+      (open-cases s (λ n. (n, s)) (λ r. (0, storedForm (after (eventOf event number) r))) P refused stored-so)
 
   pub panel-numbers : (panelBytes event number s .0 ≡ 0) ⊎ (StoredAnswer (panelBytes event number s .0) ⊎ (panelBytes event number s .0 ≡ 300))
   panel-numbers =
@@ -219,7 +277,7 @@ module _ (event number : ℕ) (s : List ℕ) where
       panel-cases (λ (p : ℕ × List ℕ). p .0 ≡ 0 → stored.readOf (p .1) ≡ (done, after (eventOf event number) (stored.readOf s .1))) (λ h. absurd (omega arith))
       (λ n w h. absurd (omega arith))
       (λ r e h.
-      form-read (after (eventOf event number) r) (after-kept r (read-so-valid s r e) (eventOf event number))
+      form-read (after (eventOf event number) r) (after-kept r (record-valid s done r e) (eventOf event number))
       ∙ ap (λ (y : stored.Outcome × Record). (done, after (eventOf event number) (y .1))) (sym e))
 
 -- ---- `khuyapesh_stored`: a refused form gives the low record

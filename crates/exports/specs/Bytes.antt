@@ -20,8 +20,10 @@ use Rattle.frame.specs.declared.Kind.the-variants.{Minicomputer, Terminal}
 use Rattle.frame.specs.Answer as frame
 use Rattle.frame.specs.Numbers.{Answer, H, S, accepted, unit}
 use Rattle.controller.specs.Call.{Outcome, callOf}
+use Rattle.several.specs.Several.{Several, severalOf}
 use Rattle.recording.specs.Replay.{fits, refuted}
 use Rattle.recording.specs.Statement.{Judgement, judged, refused}
+use Rattle.exports.specs.declared.Numbers.{Numbers}
 
 -- ---- the numbers
 
@@ -66,6 +68,23 @@ eventOf n number =
 abbrev pub hasRoom : List ℕ → Bool
 hasRoom s = leb (storedLength current) (length s)
 
+-- ---- a record that is lent to be written in its place: 0 or the answer of a refusal, and the record
+
+-- "K1 to K4, then K6 for a stored record of version 1", by what was read and whether there is room
+abbrev pub openAnswer : stored.Outcome → Bool → ℕ
+openAnswer (K n) room = storedAnswer (K n)
+openAnswer done room = unless room (storedAnswer (K 6)) 0
+
+abbrev pub openRead : stored.Outcome × Record → Bool → ℕ × Record
+openRead (a, r) room = (openAnswer a room, r)
+
+unfoldable pub openOf : List ℕ → ℕ × Record
+openOf s = openRead (stored.readOf s) (hasRoom s)
+
+-- what a refusal leaves, by its answer, or what is done with the record
+abbrev pub inPlace : {A : Type 0} → ℕ × Record → (ℕ → A) → (Record → A) → A
+inPlace (n, r) refusal on = pick (eqb n 0) (on r) (refusal n)
+
 -- ---- khuyapesh_call: the answer, the stored bytes and the reply buffer
 
 -- "the reply's length, with the reply at the start of the reply buffer, .., and the record after it in place of the stored
@@ -73,24 +92,48 @@ hasRoom s = leb (storedLength current) (length s)
 unfoldable pub callLeft : Outcome → List ℕ → List ℕ → ℕ × (List ℕ × List ℕ)
 callLeft c s o = pick (eqb (c .silence) 0) (c .reported, (storedForm (c .after), c .buffer)) (silenceAnswer (c .silence), (s, o))
 
-abbrev pub callRead : Kind → stored.Outcome × Record → List ℕ → List ℕ → List ℕ → ℕ × (List ℕ × List ℕ)
-callRead k (K n, r) s q o = (storedAnswer (K n), (s, o))
-callRead k (done, r) s q o = unless (hasRoom s) (storedAnswer (K 6), (s, o)) (callLeft (callOf k r q o) s o)
-
 -- "no such kind, then K1 to K4, then K6 .., then S2 to S8"
 unfoldable pub callBytes : ℕ → List ℕ → List ℕ → List ℕ → ℕ × (List ℕ × List ℕ)
-callBytes kind s q o = unless (isKind kind) (noSuch, (s, o)) (callRead (kindOf kind) (stored.readOf s) s q o)
+callBytes kind s q o =
+    unless (isKind kind) (noSuch, (s, o))
+    (inPlace (openOf s) (λ n. (n, (s, o))) (λ r. callLeft (callOf (kindOf kind) r q o) s o))
+
+-- ---- khuyapesh_several: the answer, what is reported, the stored bytes and the reply buffer
+pub record SeveralLeft : Type 0 where
+  pub answer : ℕ
+  pub taken : ℕ
+  pub answered : ℕ
+  pub written : ℕ
+  pub stored : List ℕ
+  pub reply : List ℕ
+
+abbrev pub severalNumbers : ℕ → ℕ → ℕ → ℕ → List ℕ → List ℕ → SeveralLeft
+severalNumbers n p a u s o = record { answer = n; taken = p; answered = a; written = u; stored = s; reply = o }
+
+abbrev pub severalAs : Numbers → List ℕ → List ℕ → SeveralLeft
+severalAs x s o = severalNumbers (x .answer) (x .taken) (x .answered) (x .written) s o
+
+-- "the three numbers are 0 and nothing else is changed"
+abbrev pub nothingTaken : ℕ → List ℕ → List ℕ → SeveralLeft
+nothingTaken n s o = severalNumbers n 0 0 0 s o
+
+unfoldable pub severalLeft : Several → List ℕ → List ℕ → SeveralLeft
+severalLeft c s o =
+    pick (eqb (c .silence) 0)
+    (severalNumbers 0 (c .taken) (c .answered) (c .written) (storedForm (c .after)) (c .buffer))
+    (nothingTaken (silenceAnswer (c .silence)) s o)
+
+-- "K1 to K4, then K6"; b are the lent bytes
+unfoldable pub severalBytes : List ℕ → List ℕ → List ℕ → SeveralLeft
+severalBytes s b o = inPlace (openOf s) (λ n. nothingTaken n s o) (λ r. severalLeft (severalOf r b o) s o)
 
 -- ---- khuyapesh_panel: the answer and the stored bytes
 
--- "0, with the record after it in place of the stored record"
-abbrev pub panelRead : Event → stored.Outcome × Record → List ℕ → ℕ × List ℕ
-panelRead e (K n, r) s = (storedAnswer (K n), s)
-panelRead e (done, r) s = unless (hasRoom s) (storedAnswer (K 6), s) (0, storedForm (after e r))
-
--- "no such event, then K1 to K4, then K6"
+-- "0, with the record after it in place of the stored record"; "no such event, then K1 to K4, then K6"
 unfoldable pub panelBytes : ℕ → ℕ → List ℕ → ℕ × List ℕ
-panelBytes event number s = unless (isEvent event) (noSuch, s) (panelRead (eventOf event number) (stored.readOf s) s)
+panelBytes event number s =
+    unless (isEvent event) (noSuch, s)
+    (inPlace (openOf s) (λ n. (n, s)) (λ r. (0, storedForm (after (eventOf event number) r))))
 
 -- ---- khuyapesh_stored: the answer and the buffer
 

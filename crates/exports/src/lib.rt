@@ -10,14 +10,15 @@ use state::Record;
 use stored::Refusal;
 use stored::STORED_LENGTH;
 ghost use mathlib.Core.Path.{_≡_};
-ghost use mathlib.Core.Bool.{true};
 ghost use Prim.Native.Nat.{_≤_};
-ghost use Rattle.stored.specs.Form.{K, done, refusalNumber, answerAs};
-ghost use Rattle.stored.specs.Form as form;
+ghost use lib.Dec.{leb};
+ghost use Rattle.stored.specs.Layout.{current};
+ghost use Rattle.stored.specs.Form.{K, refusalNumber, answerAs, storedLength};
 ghost use Rattle.frame.specs.Numbers.{silenceNumber, lengthIn, builtAs, readAs};
 ghost use Rattle.controller.specs.Call.{callOf};
+ghost use Rattle.several.specs.Several.{severalOf};
 ghost use Rattle.judging.specs.Judge.{judgementOf};
-ghost use Rattle.exports.specs.Bytes.{silenceAnswer, storedAnswer, hostAnswer, kindOf, eventOf, hasRoom, callLeft, callBytes, panelBytes, storedBytes, buildBytes, readBytes, judgeNumbers};
+ghost use Rattle.exports.specs.Bytes.{silenceAnswer, storedAnswer, hostAnswer, kindOf, eventOf, openAnswer, openOf, callLeft, callBytes, severalNumbers, severalAs, severalLeft, severalBytes, panelBytes, storedBytes, buildBytes, readBytes, judgeNumbers};
 
 // ---- the numbers that are answered
 
@@ -139,6 +140,23 @@ fn event_of(event: u8, number: u16) -> Event
     }
 }
 
+// ---- a record that is lent to be written in its place
+
+// 0, or the answer of a refusal, by what was read of as many stored bytes.
+fn open_answer(read: stored::Answer, length: usize) -> u32
+    ensures { λ n. ⌜ n ≡ openAnswer (answerAs read) (leb (storedLength current) length) ⌝ }
+{
+    match read {
+        stored::Answer::Whole => {
+            if length < STORED_LENGTH {
+                return NO_ROOM;
+            }
+            0
+        }
+        stored::Answer::Refused(why) => refusal_answer(why),
+    }
+}
+
 // ---- the controller
 
 // One call on the record that the stored bytes are.
@@ -149,7 +167,7 @@ fn call_record(
     request: &[u8],
     reply: &mut [u8],
 ) -> u32
-    requires { ⌜ (form.readOf (now stored) ≡ (done, before)) × (hasRoom (now stored) ≡ true) ⌝ }
+    requires { ⌜ openOf (now stored) ≡ (0, before) ⌝ }
     ensures { λ n. ⌜ (n, (now (stored .exit), now (reply .exit))) ≡ callLeft (callOf kind before (now (request .entry)) (now (reply .entry))) (now (stored .entry)) (now (reply .entry)) ⌝ }
 {
     let called = controller::call(kind, before, request, reply);
@@ -178,17 +196,87 @@ pub extern "C" fn khuyapesh_call(
         return NO_SUCH;
     }
     let reading = stored::read(stored);
-    let answer = reading.answer;
+    let read = reading.answer;
     let before = reading.record;
-    match answer {
-        stored::Answer::Whole => {
-            if stored.len() < STORED_LENGTH {
-                return NO_ROOM;
-            }
-            call_record(kind_of(kind), before, stored, request, reply)
-        }
-        stored::Answer::Refused(why) => refusal_answer(why),
+    let answer = open_answer(read, stored.len());
+    if answer != 0 {
+        return answer;
     }
+    call_record(kind_of(kind), before, stored, request, reply)
+}
+
+// The answer, and what is reported.
+struct Numbers {
+    pub answer: u32,
+    pub taken: usize,
+    pub answered: usize,
+    pub written: usize,
+}
+
+// Nothing is taken.
+fn nothing_taken(answer: u32) -> Numbers
+    ensures { λ x. ⌜ x ≡ record { answer = answer; taken = 0; answered = 0; written = 0 } ⌝ }
+{
+    Numbers {
+        answer: answer,
+        taken: 0,
+        answered: 0,
+        written: 0,
+    }
+}
+
+// Several frames on the record that the stored bytes are.
+fn several_record(before: Record, stored: &mut [u8], bytes: &[u8], reply: &mut [u8]) -> Numbers
+    requires { ⌜ openOf (now stored) ≡ (0, before) ⌝ }
+    ensures { λ x. ⌜ severalAs x (now (stored .exit)) (now (reply .exit)) ≡ severalLeft (severalOf before (now (bytes .entry)) (now (reply .entry))) (now (stored .entry)) (now (reply .entry)) ⌝ }
+{
+    let called = several::call(before, bytes, reply);
+    let answer = called.answer;
+    let last = called.after;
+    match answer {
+        several::Answer::Silent(why) => nothing_taken(silence_answer(why)),
+        several::Answer::Served(report) => {
+            stored::write(last, stored);
+            Numbers {
+                answer: 0,
+                taken: report.taken,
+                answered: report.answered,
+                written: report.written,
+            }
+        }
+    }
+}
+
+fn several_stored(stored: &mut [u8], bytes: &[u8], reply: &mut [u8]) -> Numbers
+    ensures { λ x. ⌜ severalAs x (now (stored .exit)) (now (reply .exit)) ≡ severalBytes (now (stored .entry)) (now (bytes .entry)) (now (reply .entry)) ⌝ }
+{
+    let reading = stored::read(stored);
+    let read = reading.answer;
+    let before = reading.record;
+    let answer = open_answer(read, stored.len());
+    if answer != 0 {
+        return nothing_taken(answer);
+    }
+    several_record(before, stored, bytes, reply)
+}
+
+// All minicomputer frames in the lent bytes.
+#[no_mangle]
+pub extern "C" fn khuyapesh_several(
+    stored: &mut [u8],
+    bytes: &[u8],
+    reply: &mut [u8],
+    taken: &mut usize,
+    answered: &mut usize,
+    written: &mut usize,
+) -> u32
+    ensures { λ n. ⌜ severalNumbers n (now (taken .exit)) (now (answered .exit)) (now (written .exit)) (now (stored .exit)) (now (reply .exit)) ≡ severalBytes (now (stored .entry)) (now (bytes .entry)) (now (reply .entry)) ⌝ }
+{
+    let numbers = several_stored(stored, bytes, reply);
+    *taken = numbers.taken;
+    *answered = numbers.answered;
+    *written = numbers.written;
+    numbers.answer
 }
 
 // ---- the panel
@@ -202,18 +290,14 @@ pub extern "C" fn khuyapesh_panel(event: u8, number: u16, stored: &mut [u8]) -> 
         return NO_SUCH;
     }
     let reading = stored::read(stored);
-    let answer = reading.answer;
+    let read = reading.answer;
     let before = reading.record;
-    match answer {
-        stored::Answer::Whole => {
-            if stored.len() < STORED_LENGTH {
-                return NO_ROOM;
-            }
-            stored::write(before.after(event_of(event, number)), stored);
-            0
-        }
-        stored::Answer::Refused(why) => refusal_answer(why),
+    let answer = open_answer(read, stored.len());
+    if answer != 0 {
+        return answer;
     }
+    stored::write(before.after(event_of(event, number)), stored);
+    0
 }
 
 // ---- the stored form

@@ -12,6 +12,8 @@ use borrow.Rule.Slice.PartMut.{putMid}
 use borrow.Author.Tests.{le-leb, leb-true, eqb-true}
 use Rattle.frame.specs.declared.Kind.{Kind}
 use Rattle.frame.specs.declared.Kind.the-variants.{Minicomputer, Terminal}
+use Rattle.frame.specs.declared.Silence.{Silence}
+use Rattle.frame.specs.declared.Silence.the-variants as silence
 use Rattle.frame.specs.declared.Built.{Built}
 use Rattle.frame.specs.declared.Built.the-variants as built
 use Rattle.frame.specs.declared.Located.{Located}
@@ -20,9 +22,20 @@ use Rattle.frame.specs.declared.Addressed.{Addressed}
 use Rattle.frame.specs.declared.Addressed.the-variants as addressee
 use Rattle.frame.specs.Frame.{stx, etx, pad, star, cr, lf, isDigit, isCapital, allText, namesUnit, addressIn, frameOf, tailOf, textIn, withinLimits, fromEnd, marksRight, checkRight}
 use Rattle.base.specs.Test.{between, unless}
-use Rattle.frame.specs.Numbers.{Answer, H, S, accepted, unit, builtAs, locatedAs, addressedAs}
+use Rattle.frame.specs.Numbers.{Answer, H, S, accepted, unit, silenceNumber, builtAs, locatedAs, addressedAs}
 use Rattle.frame.specs.Answer.{copied, addressed, buildOf, locateOf, readOf, addressOf}
 use Rattle.base.specs.Lists.{over}
+
+-- ---- silences are counted from 1
+pub silence-low : (w : Silence) → 1 ≤ silenceNumber w
+silence-low silence.InvalidRecord = omega arith
+silence-low silence.ShortReplyBuffer = omega arith
+silence-low silence.FrameLength = omega arith
+silence-low silence.Mark = omega arith
+silence-low silence.Check = omega arith
+silence-low silence.TextByte = omega arith
+silence-low silence.AddressOrCode = omega arith
+silence-low silence.OtherAddress = omega arith
 
 -- ---- the text that a buffer holds from its second byte on
 pub held-length : (n : ℕ) (o : List ℕ) → n < length o → length (take n (drop 1 o)) ≡ n

@@ -29,6 +29,8 @@ abbrev pub lf : ℕ
 lf = 0x0a
 
 -- ---- the text: "4 to 60 bytes, each 0x20..0x7E"
+abbrev pub isText : ℕ → Bool
+isText x = between 0x20 0x7e x
 
 abbrev pub allText : List ℕ → Bool
 allText xs = allBetween 0x20 0x7e xs

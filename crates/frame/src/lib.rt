@@ -2,7 +2,7 @@
 ghost use mathlib.Core.Path.{_≡_};
 ghost use Prim.Native.Nat.{_+_, _≤_};
 ghost use lib.ListN.{length, take, drop};
-ghost use Rattle.frame.specs.Frame.{xorFrom, allText, frameOf, tailOf, withinLimits, marksRight, checkRight, namesUnit};
+ghost use Rattle.frame.specs.Frame.{xorFrom, isText, allText, frameOf, tailOf, withinLimits, marksRight, checkRight, namesUnit};
 ghost use Rattle.base.specs.Test.{between};
 ghost use Rattle.frame.specs.Answer.{buildOf, locateOf, readOf, addressOf};
 ghost use Rattle.base.specs.Lists.{over};
@@ -86,9 +86,15 @@ impl Built {
     }
 }
 
-const STX: u8 = 0x02;
+// The most bytes that a text has.
+pub const LONGEST_TEXT: usize = 60;
 
-const ETX: u8 = 0x03;
+// The least room for a reply, a frame that is built or a text that is read.
+pub const ROOM: usize = 64;
+
+pub const STX: u8 = 0x02;
+
+pub const ETX: u8 = 0x03;
 
 const PAD: u8 = 0x7f;
 
@@ -109,6 +115,13 @@ pub fn check(s: &[u8]) -> u8
         i += 1;
     }
     c
+}
+
+// The byte may stand in a text.
+pub fn text_byte(x: u8) -> bool
+    ensures { λ r. ⌜ r ≡ isText x ⌝ }
+{
+    inside(0x20, 0x7e, x)
 }
 
 // Every byte may stand in a text.
@@ -174,14 +187,14 @@ fn close(kind: Kind, n: usize, out: &mut [u8]) -> usize
 pub fn build(kind: Kind, text: &[u8], out: &mut [u8]) -> Built
     ensures { λ r. ⌜ (builtAs r, now (out .exit)) ≡ buildOf kind (now (text .entry)) (now (out .entry)) ⌝ }
 {
-    if out.len() < 64 {
+    if out.len() < ROOM {
         return Built::ShortBuffer;
     }
     let n = text.len();
     if n < 4 {
         return Built::TextLength;
     }
-    if 60 < n {
+    if LONGEST_TEXT < n {
         return Built::TextLength;
     }
     if !printable(text) {
@@ -195,13 +208,13 @@ pub fn build(kind: Kind, text: &[u8], out: &mut [u8]) -> Built
 pub fn enclose(kind: Kind, n: usize, out: &mut [u8]) -> Built
     ensures { λ r. ⌜ (builtAs r, now (out .exit)) ≡ buildOf kind (take n (drop 1 (now (out .entry)))) (now (out .entry)) ⌝ }
 {
-    if out.len() < 64 {
+    if out.len() < ROOM {
         return Built::ShortBuffer;
     }
     if n < 4 {
         return Built::TextLength;
     }
-    if 60 < n {
+    if LONGEST_TEXT < n {
         return Built::TextLength;
     }
     let end = n + 1;
@@ -298,7 +311,7 @@ pub fn locate(kind: Kind, frame: &[u8]) -> Located
 pub fn read(kind: Kind, frame: &[u8], out: &mut [u8]) -> TextRead
     ensures { λ r. ⌜ (readAs r, now (out .exit)) ≡ readOf kind (now (frame .entry)) (now (out .entry)) ⌝ }
 {
-    if out.len() < 64 {
+    if out.len() < ROOM {
         return TextRead::ShortBuffer;
     }
     match locate(kind, frame) {

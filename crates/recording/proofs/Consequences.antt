@@ -1,25 +1,17 @@
 -- What follows from the statement of demand 3: what agrees agrees up to any place, exactly one answer is right, and what the reply
 -- buffers hold does not matter. Assumes nothing.
 use Prim.Native.Nat.{ℕ, zero, suc, _-_, _≤_, _<_}
-use mathlib.Core.Bool.{Bool, true, false}
-use mathlib.Core.Path.{_≡_, refl, sym, ap, subst, _∙_}
+use mathlib.Core.Path.{_≡_, sym, ap, subst, _∙_}
 use mathlib.Core.List.{List, [], _∷_}
 use mathlib.Core.Logic.{⊎-elim}
 use native.Mathlib.Omega.{arith}
-use lib.Dec.{eqb, leb}
+use lib.Dec.{leb}
 use lib.ListN.{length, take, replicate}
 use lib.Seq.{take-take}
-use Rattle.base.specs.Test.{unless}
 use Rattle.base.proofs.Tests.{below-or-not}
 use Rattle.state.specs.declared.Record.{Record}
-use Rattle.state.specs.Field.{address, get}
-use Rattle.state.specs.Valid.{valid}
-use Rattle.frame.specs.declared.Kind.{Kind}
 use Rattle.frame.specs.declared.Kind.the-variants.{Minicomputer}
-use Rattle.frame.specs.Frame.{allText, namesUnit, addressIn, frameOf, textIn, withinLimits, marksRight, checkRight}
-use Rattle.base.proofs.Lists.{over-take}
-use Rattle.command.specs.Answer.{replyText}
-use Rattle.controller.specs.Call.{Outcome, silent, replied, callOf}
+use Rattle.controller.proofs.Buffers.{Alike, calls-alike}
 use Rattle.recording.specs.Form.{Exchange, Recording, J, recorded, recordingOf}
 use Rattle.recording.specs.Replay.{Answer, fits, refuted, AllAgree, SomeAgrees, Right}
 use Rattle.recording.specs.Statement.{called, AgreesIn, Agrees, next, Start, Judgement, refused, judged, RightOf, Demand3}
@@ -76,42 +68,10 @@ one-judgement bs = one (recordingOf bs)
     one (recorded a c es) (judged x) (judged y) p q = ap judged (one-answer next Agrees (Start a c) es x y p q)
 
 -- ---- what a reply buffer held before does not matter
-
--- two outcomes report the same, leave the same record and show the same bytes
-pub record Alike (x y : Outcome) : Type 0 where
-  pub same-length : x .reported ≡ y .reported
-  pub same-record : x .after ≡ y .after
-  pub same-bytes : take (x .reported) (x .buffer) ≡ take (y .reported) (y .buffer)
-
-alike-by : (b : Bool) {x y x′ y′ : Outcome} → Alike x x′ → Alike y y′ → Alike (unless b x y) (unless b x′ y′)
-alike-by true p q = q
-alike-by false p q = p
-
-module _ (k : Kind) (r : Record) (q o o′ : List ℕ) (e : length o ≡ length o′) where
-  both-silent : (n : ℕ) → Alike (silent n r o) (silent n r o′)
-  both-silent n = record { same-length = refl; same-record = refl; same-bytes = refl }
-
-  both-replied : (t : List ℕ) → Alike (replied k t r o) (replied k t r o′)
-  both-replied t =
-      let f : List ℕ = frameOf k (replyText t r) in
-      record { same-length = refl; same-record = refl; same-bytes = over-take f o (length f) refl ∙ sym (over-take f o′ (length f) refl) }
-
-  -- buffers of one length
-  pub calls-alike : Alike (callOf k r q o) (callOf k r q o′)
-  unfolding callOf
-  calls-alike =
-      let t : List ℕ = textIn k q in
-      let rest : (x x′ : Outcome) → Alike x x′ → Alike (unless (leb 64 (length o)) (silent 2 r o) x) (unless (leb 64 (length o′)) (silent 2 r o′) x′) =
-      λ x x′ p. subst (λ (n : ℕ). Alike (unless (leb 64 (length o)) (silent 2 r o) x) (unless (leb 64 n) (silent 2 r o′) x′)) e
-      (alike-by (leb 64 (length o)) (both-silent 2) p) in
-      alike-by (valid r) (both-silent 1) (rest _ _ (alike-by (withinLimits k (length q)) (both-silent 3) (alike-by (marksRight k q) (both-silent 4)
-      (alike-by (checkRight k q) (both-silent 5) (alike-by (allText t) (both-silent 6) (alike-by (namesUnit t) (both-silent 7)
-      (alike-by (eqb (addressIn t) (get address r)) (both-silent 8) (both-replied t))))))))
-
 pub buffer-free : (r : Record) (e : Exchange) (o o′ : List ℕ) → length o ≡ 64 → length o′ ≡ 64 → AgreesIn r e o → AgreesIn r e o′
 buffer-free r e o o′ l l′ h =
-    let a : Alike (called r e o) (called r e o′) = calls-alike Minicomputer r (e .request) o o′ (l ∙ sym l′) in
+    let a : Alike (called r e o) (called r e o′) = calls-alike Minicomputer r (e .request) o o′ (ap (leb 64) (l ∙ sym l′)) in
     (sym (a .same-length) ∙ h .0, sym (a .same-bytes) ∙ h .1)
 
 pub next-free : (r : Record) (e : Exchange) (o : List ℕ) → length o ≡ 64 → called r e o .after ≡ next r e
-next-free r e o l = calls-alike Minicomputer r (e .request) o (replicate 64 0) l .same-record
+next-free r e o l = calls-alike Minicomputer r (e .request) o (replicate 64 0) (ap (leb 64) l) .same-record

@@ -1,4 +1,4 @@
--- `command::serve_write` meets its contract: the guards decide, and a refusal keeps the record. Assumes nothing.
+-- `command::serve_write` meets its contract: the guards decide, and a refusal has no effect. Assumes nothing.
 use Rattle.command.proofs.Serving.{write-serving}
 use borrow.Author.Needs.{needs}
 use Rattle.command.proofs.serve_write.Statement.{statement}
@@ -11,7 +11,6 @@ serve-write-spec =
     (λ c κs. search needs)
     (λ c κs. search needs)
     (λ c. search needs)
-    (λ c κs. search needs)
     (λ c. search needs)
     (λ c. search (write-serving, needs))
     (λ c. search (write-serving, needs)))

@@ -8,8 +8,8 @@ use Rattle.controller.proofs.call.Tie as tie
 add-end : tie.Need-add-end
 add-end c = omega (arith, text-within _ _ _ _ _ (c .before .before .before .before .before .address .ensures) (c .before .before .before .address2 .given .1))
 
-part-answered-end : tie.Need-part-answered-end
-part-answered-end c = omega (arith, text-within _ _ _ _ _ (c .before .before .before .before .before .address .ensures) (c .before .before .before .address2 .given .1))
+part-reply-to-end : tie.Need-part-reply-to-end
+part-reply-to-end c = omega (arith, text-within _ _ _ _ _ (c .before .before .before .before .before .address .ensures) (c .before .before .before .address2 .given .1))
 
 returns-5 : tie.Need-returns-5
 returns-5 c = search calling
@@ -32,7 +32,8 @@ call-spec =
     add-end
     (λ c. search needs)
     (λ c. search needs)
-    part-answered-end
+    part-reply-to-end
+    (λ c κs. search needs)
     (λ c κs. search needs)
     (λ c. search calling)
     (λ c. search needs)

@@ -1,5 +1,5 @@
--- `exports::khuyapesh_call` meets its contract: one law for a number that is no kind, one for stored bytes that are refused, one for those with too little room, and one for the call. Assumes nothing.
-use Rattle.exports.proofs.Steps.{read-whole, room-for, serving}
+-- `exports::khuyapesh_call` meets its contract: one law for a number that is no kind, one for a refusal of the stored bytes, and one for the call. Assumes nothing.
+use Rattle.exports.proofs.Steps.{opened-record, serving}
 use borrow.Author.Needs.{needs}
 use Rattle.exports.proofs.khuyapesh_call.Statement.{statement}
 use Rattle.exports.proofs.khuyapesh_call.Tie as tie
@@ -10,15 +10,11 @@ khuyapesh-call-spec =
     (tie.spec
     (λ c. search serving)
     (λ c κs. search needs)
-    (λ c. search needs)
+    (λ c κs. search needs)
     (λ c. search needs)
     (λ c. search serving)
     (λ c κs. search needs)
-    (λ c κs. search (read-whole, room-for))
+    (λ c κs. search opened-record)
     (λ c. search needs)
-    (λ c κs. search needs)
-    (λ c. search needs)
-    (λ c. search needs)
-    (λ c. search serving)
     (λ c. search needs)
     (λ c. search serving))

@@ -1,4 +1,4 @@
--- `exports::khuyapesh_panel` meets its contract: one law for a number that is no event, one for stored bytes that are refused, one for those with too little room, and one for the event. Assumes nothing.
+-- `exports::khuyapesh_panel` meets its contract: one law for a number that is no event, one for a refusal of the stored bytes, and one for the event. Assumes nothing.
 use Rattle.exports.proofs.Steps.{happening}
 use borrow.Author.Needs.{needs}
 use Rattle.exports.proofs.khuyapesh_panel.Statement.{statement}
@@ -10,15 +10,11 @@ khuyapesh-panel-spec =
     (tie.spec
     (λ c. search happening)
     (λ c κs. search needs)
-    (λ c. search needs)
-    (λ c. search needs)
-    (λ c. search happening)
-    (λ c κs. search needs)
-    (λ c κs. search needs)
-    (λ c κs. search needs)
-    (λ c. search needs)
     (λ c κs. search needs)
     (λ c. search needs)
     (λ c. search happening)
+    (λ c κs. search needs)
+    (λ c κs. search needs)
+    (λ c κs. search needs)
     (λ c. search needs)
     (λ c. search happening))

@@ -1,0 +1,13 @@
+pub mod Joined
+pub mod Places
+pub mod Seek
+pub mod Handing
+pub mod Walk
+pub mod Steps
+pub mod Theorems
+pub mod OneByOne
+pub mod Cut
+pub mod Room
+pub mod Inside
+pub mod Looks
+pub mod BackToBack

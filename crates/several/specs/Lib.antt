@@ -1,0 +1,4 @@
+pub mod Several
+pub mod Answers
+pub mod OneByOne
+pub mod Worked
