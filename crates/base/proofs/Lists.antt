@@ -27,6 +27,18 @@ pub over-take : (f o : List ℕ) (n : ℕ) → length f ≡ n → take n (over f
 unfolding over
 over-take f o n e = take-at f _ n e
 
+-- behind it all is as it was
+pub over-rest : (f o : List ℕ) (n : ℕ) → length f ≡ n → drop n (over f o) ≡ drop n o
+unfolding over
+over-rest f o n e = drop-at f (drop (length f) o) n e ∙ ap (λ (i : ℕ). drop i o) e
+
+-- two behind one another: the first, and the second over the rest
+pub over-append : (f g o : List ℕ) → over (f ++ g) o ≡ f ++ over g (drop (length f) o)
+unfolding over
+over-append f g o =
+    append-assoc f g (drop (length (f ++ g)) o)
+    ∙ ap (λ (s : List ℕ). f ++ (g ++ s)) (ap (λ (n : ℕ). drop n o) (length-append f g) ∙ sym (drop-drop (length g) (length f) o))
+
 -- one more byte
 pub over-put : (f o : List ℕ) (i b : ℕ) → i ≡ length f → i < length o → set (over f o) i b ≡ over (f ++ (b ∷ [])) o
 unfolding over

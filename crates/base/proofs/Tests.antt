@@ -18,6 +18,10 @@ pub by-test : {A : Type 0} (b : Bool) → (b ≡ true → A) → (b ≡ false �
 by-test true f g = f refl
 by-test false f g = g refl
 
+-- what would make distinct cases equal: `cc` gives it
+pub never : _≡_ {A = ℕ} 0 1 → ⊥
+never e = omega arith
+
 pub and-yes : (a b : Bool) → a ≡ true → b ≡ true → (a && b) ≡ true
 and-yes true b p q = q
 and-yes false b p q = p

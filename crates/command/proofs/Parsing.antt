@@ -11,7 +11,7 @@ use lib.ListN.{length, take, drop, getD, length-drop, length-take, List·getD-eq
 use lib.Seq.{take-all, length-take-le, drop-drop}
 use borrow.Author.Tests.{le-leb, lt-leb, lt-ltb, le-ltb, eq-eqb, ne-eqb, eqb-true}
 use Rattle.base.specs.Test.{pick, between, member}
-use Rattle.base.proofs.Tests.{by-test, between-high}
+use Rattle.base.proofs.Tests.{by-test, between-high, never}
 use Rattle.text.specs.declared.Digits.{Digits}
 use Rattle.text.specs.declared.Digits.the-variants as digitsRead
 use Rattle.text.specs.Word.{space, allDigits, valueOf, numberFor, equal, oneOf}
@@ -29,9 +29,6 @@ use Rattle.command.specs.Commands.{RT, PV, XV, PC, XC, NR, SB, RE, Comma
 use Rattle.command.specs.Refusals.{refusals, of, argumentsFor, unknownCode, notServed, listed}
 use Rattle.command.specs.Answer.{Verdict, NO, accepted}
 use Rattle.command.specs.Request.{numbersOf, whole, Asked, refused, asked, firstByText, firstByArguments, unlessRefused, askedWith, askedFor, askedIn, requestAs}
-
-never : _≡_ {A = ℕ} 0 1 → ⊥
-never e = omega arith
 
 -- ---- a code of the table: the arguments decide if what stands behind the code has the form
 module _ (k : ℕ) (xs : List ℕ) (known : unknownCode k xs ≡ false) (served : notServed k xs ≡ false) where

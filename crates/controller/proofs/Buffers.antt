@@ -3,7 +3,7 @@
 use Prim.Native.Nat.{ℕ, _≤_}
 use mathlib.Core.Bool.{Bool, true, false}
 use mathlib.Core.Path.{_≡_, refl, sym, ap, subst, _∙_}
-use mathlib.Core.List.{List}
+use mathlib.Core.List.{List, []}
 use mathlib.Core.Logic.{⊎-elim}
 use lib.Dec.{eqb, leb}
 use native.Mathlib.Omega.{arith}
@@ -21,12 +21,16 @@ use Rattle.command.specs.Answer.{replyText}
 use Rattle.controller.specs.Call.{Outcome, silent, replied, callOf}
 use Rattle.controller.proofs.Theorems.{Silenced, Answered, every-input}
 
+-- the bytes shown
+abbrev pub shownBy : Outcome → List ℕ
+shownBy c = take (c .reported) (c .buffer)
+
 -- two outcomes have the same silence, report the same, leave the same record and show the same bytes
 pub record Alike (x y : Outcome) : Type 0 where
   pub same-silence : x .silence ≡ y .silence
   pub same-length : x .reported ≡ y .reported
   pub same-record : x .after ≡ y .after
-  pub same-bytes : take (x .reported) (x .buffer) ≡ take (y .reported) (y .buffer)
+  pub same-bytes : shownBy x ≡ shownBy y
 
 alike-by : (b : Bool) {x y x′ y′ : Outcome} → Alike x x′ → Alike y y′ → Alike (unless b x y) (unless b x′ y′)
 alike-by true p q = q
@@ -56,23 +60,29 @@ module _ (k : Kind) (r : Record) (q o o′ : List ℕ) where
   pub calls-with-room : 64 ≤ length o → 64 ≤ length o′ → Alike (callOf k r q o) (callOf k r q o′)
   calls-with-room l l′ = calls-alike (le-leb 64 (length o) l ∙ sym (le-leb 64 (length o′) l′))
 
--- the bytes shown are laid over the buffer, and that is all; a silence shows none
-pub buffer-left : (k : Kind) (r : Record) (q o : List ℕ) → callOf k r q o .buffer ≡ over (take (callOf k r q o .reported) (callOf k r q o .buffer)) o
-unfolding over
-buffer-left k r q o =
-    ⊎-elim
-    (λ (s : Silenced k r q o). s .same-buffer ∙ sym (ap (λ (n : ℕ). over (take n (callOf k r q o .buffer)) o) (s .nothing)))
-    (λ (a : Answered k r q o).
-    let f : List ℕ = frameOf k (replyText (textIn k q) r) in
-    a .frame ∙ ap (λ (x : List ℕ). over x o) (sym (ap (λ (n : ℕ). take n (callOf k r q o .buffer)) (a .size) ∙ (ap (take (length f)) (a .frame) ∙ over-take f o (length f) refl))))
-    (every-input k r q o)
+-- ---- of any call
+module _ (k : Kind) (r : Record) (q o : List ℕ) where
+  abbrev outcome : Outcome
+  outcome = callOf k r q o
 
--- no more than 64 bytes are reported, and as many are shown
-pub shown-length : (k : Kind) (r : Record) (q o : List ℕ) → (length (take (callOf k r q o .reported) (callOf k r q o .buffer)) ≡ callOf k r q o .reported) × (callOf k r q o .reported ≤ 64)
-shown-length k r q o =
-    ⊎-elim
-    (λ (s : Silenced k r q o). (ap (λ (n : ℕ). length (take n (callOf k r q o .buffer))) (s .nothing) ∙ sym (s .nothing), omega (arith, s .nothing)))
-    (λ (a : Answered k r q o).
-    let f : List ℕ = frameOf k (replyText (textIn k q) r) in
-    (ap length (ap (λ (n : ℕ). take n (callOf k r q o .buffer)) (a .size) ∙ (ap (take (length f)) (a .frame) ∙ over-take f o (length f) refl)) ∙ sym (a .size), a .high))
-    (every-input k r q o)
+  -- those of an answer are its frame; a silence shows none
+  frame-shown : Answered k r q o → shownBy outcome ≡ frameOf k (replyText (textIn k q) r)
+  frame-shown a =
+      let f : List ℕ = frameOf k (replyText (textIn k q) r) in
+      ap (λ (n : ℕ). take n (outcome .buffer)) (a .size) ∙ (ap (take (length f)) (a .frame) ∙ over-take f o (length f) refl)
+
+  none-shown : Silenced k r q o → shownBy outcome ≡ []
+  none-shown s = ap (λ (n : ℕ). take n (outcome .buffer)) (s .nothing)
+
+  -- they are laid over the buffer, and that is all
+  pub buffer-left : outcome .buffer ≡ over (shownBy outcome) o
+  unfolding over
+  buffer-left =
+      ⊎-elim (λ (s : Silenced k r q o). s .same-buffer ∙ sym (ap (λ (x : List ℕ). over x o) (none-shown s)))
+      (λ (a : Answered k r q o). a .frame ∙ sym (ap (λ (x : List ℕ). over x o) (frame-shown a))) (every-input k r q o)
+
+  -- no more than 64 bytes are reported, and as many are shown
+  pub shown-length : (length (shownBy outcome) ≡ outcome .reported) × (outcome .reported ≤ 64)
+  shown-length =
+      ⊎-elim (λ (s : Silenced k r q o). (ap length (none-shown s) ∙ sym (s .nothing), omega (arith, s .nothing)))
+      (λ (a : Answered k r q o). (ap length (frame-shown a) ∙ sym (a .size), a .high)) (every-input k r q o)

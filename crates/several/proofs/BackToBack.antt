@@ -10,7 +10,7 @@ use lib.ListN.{length, take, drop, replicate, length-append}
 use lib.Seq.{drop-at, drop-append-add, take-at}
 use borrow.Author.Tests.{le-leb, eq-eqb, ne-eqb}
 use Rattle.base.specs.Test.{pick, unless, allBetween}
-use Rattle.base.proofs.Tests.{and-left, and-right}
+use Rattle.base.proofs.Tests.{and-left, and-right, never}
 use Rattle.state.specs.declared.Record.{Record}
 use Rattle.frame.specs.declared.Kind.the-variants.{Minicomputer}
 use Rattle.frame.specs.Frame.{stx, etx, pad, checkOf, isText, allText, frameOf, marksRight}
@@ -23,7 +23,6 @@ use Rattle.several.specs.OneByOne.{calls, endToEnd, answeredIn, lastReco
 use Rattle.several.proofs.Joined.{made, made-same, then-assoc, taking-more, pass, onward}
 use Rattle.several.proofs.Steps.{Quiet, Tells, step-tells}
 use Rattle.several.proofs.Inside.{inside-passed}
-use Rattle.several.proofs.Places.{never}
 
 -- the search passes a text and stands at the byte behind it
 through-text : (n : ℕ) (t : List ℕ) (y : ℕ) (ys : List ℕ) → allText t ≡ true → length t ≤ n → isText y ≡ false → through n (t ++ (y ∷ ys)) ≡ length t

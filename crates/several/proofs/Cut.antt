@@ -10,6 +10,7 @@ use lib.Dec.{eqb}
 use lib.ListN.{length, take, drop, replicate, length-append}
 use lib.Seq.{take-append-le}
 use borrow.Author.Tests.{le-leb}
+use Rattle.base.proofs.Tests.{never}
 use Rattle.base.specs.Test.{pick, unless}
 use Rattle.state.specs.declared.Record.{Record}
 use Rattle.frame.specs.declared.Kind.the-variants.{Minicomputer}
@@ -18,7 +19,7 @@ use Rattle.controller.proofs.Buffers.{shown-length}
 use Rattle.several.specs.Several.{Place, passed, undecided, whole, placeOf, called, replyIn, Step, stop, skip, full, silent, answer, handed, stepOf, Heard, nothing, taking, answering, _then_, follow, heardFrom}
 use Rattle.several.specs.OneByOne.{endToEnd, untaken, ticks, Roomy, AllRoomy}
 use Rattle.several.proofs.Joined.{made-same, then-assoc, nothing-then, onward}
-use Rattle.several.proofs.Places.{never, whole-told, place-append, undecided-short}
+use Rattle.several.proofs.Places.{whole-told, place-append, undecided-short}
 use Rattle.several.proofs.Steps.{Replied, Tells, step-tells, silent-fits, answer-fits}
 
 -- a reply is as long as is reported, and at most 64 bytes

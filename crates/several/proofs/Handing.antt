@@ -11,7 +11,7 @@ use lib.Seq.{take-nil, take-take}
 use borrow.Author.Tests.{le-leb, lt-leb, leb-true, leb-false, eq-eqb, ne-eqb, eqb-true, eqb-false}
 use Rattle.base.specs.Test.{unless}
 use Rattle.base.specs.Lists.{over}
-use Rattle.base.proofs.Tests.{by-test}
+use Rattle.base.proofs.Tests.{by-test, never}
 use Rattle.state.specs.declared.Record.{Record}
 use Rattle.state.specs.Valid.{valid}
 use Rattle.frame.specs.declared.Kind.the-variants.{Minicomputer}
@@ -33,7 +33,6 @@ use Rattle.several.specs.declared.Due.the-variants.{Refused, OtherUnit, 
 use Rattle.several.specs.Several.{called, replyIn, full, answer, handed}
 use Rattle.several.specs.Several as several
 use Rattle.several.specs.Answers.{dueBy, dueOf}
-use Rattle.several.proofs.Places.{never}
 
 -- ---- the returns of `due_to`
 module _ (d room : ℕ) (q : List ℕ) (a : Addressed) (e : addressedAs a ≡ addressOf Minicomputer q) where

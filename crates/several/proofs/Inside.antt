@@ -13,13 +13,12 @@ use lib.Seq.{getD-take}
 use borrow.Author.Tests.{ne-eqb}
 use Rattle.base.specs.Test.{unless}
 use Rattle.base.proofs.Lists.{next}
-use Rattle.base.proofs.Tests.{by-test, below-or-not}
+use Rattle.base.proofs.Tests.{below-or-not}
 use Rattle.state.specs.declared.Record.{Record}
-use Rattle.state.specs.Valid.{valid}
 use Rattle.frame.specs.declared.Kind.the-variants.{Minicomputer}
-use Rattle.frame.specs.Frame.{stx, pad, withinLimits, marksRight}
+use Rattle.frame.specs.Frame.{stx, pad, marksRight}
 use Rattle.frame.proofs.Laws.{marks-told}
-use Rattle.controller.specs.Call.{Outcome, silent, callOf}
+use Rattle.controller.proofs.Exactly.{silence-exactly}
 use Rattle.several.specs.Several.{Place, passed, whole, through, searched, placeOf, called, stepOf, Heard, taking, _then_, follow, heardFrom}
 use Rattle.several.proofs.Joined.{onward}
 use Rattle.several.proofs.Places.{Whole, whole-told, whole-clear}
@@ -47,13 +46,7 @@ before-pad x y ys e = go (eqb x stx)
 
 -- S5 and later come after the marks are tested
 marks-by-silence : (r : Record) (q : List ℕ) → 5 ≤ called r q .silence → marksRight Minicomputer q ≡ true
-unfolding callOf
-marks-by-silence r q h =
-    by-test (valid r) (λ v. by-test (withinLimits Minicomputer (length q)) (λ l. by-test (marksRight Minicomputer q) (λ m. m) (λ m. low 4 (omega arith) (simp (v, l, m))))
-    (λ l. low 3 (omega arith) (simp (v, l)))) (λ v. low 1 (omega arith) (simp v))
-  where
-    low : (n : ℕ) → n < 5 → called r q ≡ silent n r (replicate 64 0) → marksRight Minicomputer q ≡ true
-    low n l e = let i : called r q .silence ≡ n = ap (λ (c : Outcome). c .silence) e in absurd (omega arith)
+marks-by-silence r q h = silence-exactly Minicomputer r q (replicate 64 0) (called r q .silence - 1) .0 (omega arith) .before 3 (omega arith)
 
 module _ (x : ℕ) (xs : List ℕ) (n : ℕ) (stands : placeOf x xs ≡ whole n) (marks : marksRight Minicomputer (take n (x ∷ xs)) ≡ true) where
   w : Whole xs n

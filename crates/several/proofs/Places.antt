@@ -11,13 +11,9 @@ use lib.Seq.{drop-drop, getD-drop, drop-append-le}
 use borrow.Author.Tests.{le-leb, lt-leb, leb-true, leb-false, eq-eqb, ne-eqb, eqb-true, not-true, not-false}
 use Rattle.base.specs.Test.{pick, unless, between}
 use Rattle.base.proofs.Lists.{next}
-use Rattle.base.proofs.Tests.{between-low, below-or-not}
+use Rattle.base.proofs.Tests.{between-low, below-or-not, never}
 use Rattle.frame.specs.Frame.{stx, etx, isText}
 use Rattle.several.specs.Several.{Place, passed, undecided, whole, through, endAt, searched, placeOf}
-
--- distinct cases are not equal
-pub never : _≡_ {A = ℕ} 0 1 → ⊥
-never e = omega arith
 
 -- ---- how many text bytes are passed
 pub through-most : (n : ℕ) (xs : List ℕ) → through n xs ≤ n

@@ -5,13 +5,11 @@ use mathlib.Core.List.{List, [], _∷_, _++_}
 use native.Mathlib.Nat.{le-of-suc-le-suc, not-suc-le-zero}
 use native.Mathlib.Omega.{arith}
 use lib.ListN.{length, take, replicate, length-append, length-take}
-use Rattle.base.proofs.Tests.{by-test}
 use Rattle.state.specs.declared.Record.{Record}
-use Rattle.state.specs.Valid.{valid}
 use Rattle.frame.specs.declared.Kind.the-variants.{Minicomputer}
-use Rattle.frame.specs.Frame.{withinLimits}
 use Rattle.frame.proofs.Laws.{limits-low}
-use Rattle.controller.specs.Call.{Outcome, silent, callOf}
+use Rattle.controller.specs.Call.{Outcome, silent}
+use Rattle.controller.proofs.Exactly.{heard-exactly}
 use Rattle.several.specs.Several.{placeOf, called, replyIn, Step, stop, skip, full, answer, stepOf, Heard, follow, heardFrom}
 use Rattle.several.specs.Several as several
 use Rattle.several.specs.OneByOne.{Roomy}
@@ -22,14 +20,7 @@ use Rattle.several.proofs.Cut.{reply-length, within}
 
 -- a frame that is answered
 frame-low : (r : Record) (q : List ℕ) → called r q .silence ≡ 0 → 8 ≤ length q
-unfolding callOf
-frame-low r q e =
-    by-test (valid r)
-    (λ v. by-test (withinLimits Minicomputer (length q)) (limits-low Minicomputer (length q)) (λ l. never-silent 3 (omega arith) (simp (v, l))))
-    (λ v. never-silent 1 (omega arith) (simp v))
-  where
-    never-silent : (n : ℕ) → 1 ≤ n → called r q ≡ silent n r (replicate 64 0) → 8 ≤ length q
-    never-silent n l w = let i : called r q .silence ≡ n = ap (λ (c : Outcome). c .silence) w in absurd (omega arith)
+frame-low r q e = limits-low Minicomputer (length q) (heard-exactly Minicomputer r q (replicate 64 0) .0 e 2)
 
 -- where k bytes belong to a frame that is done
 record Counted (k : ℕ) (h : Heard) : Type 0 where

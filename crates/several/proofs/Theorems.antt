@@ -2,10 +2,10 @@
 use Prim.Native.Nat.{ℕ, zero, suc, _+_, _-_}
 use mathlib.Core.Bool.{true, false}
 use mathlib.Core.Path.{_≡_, refl, sym, ap, _∙_}
-use mathlib.Core.List.{List, [], _∷_, _++_, append-assoc, append-nil}
+use mathlib.Core.List.{List, [], _∷_, _++_, append-nil}
 use lib.ListN.{length, take, drop, replicate, length-append, length-drop}
-use lib.Seq.{drop-at, drop-drop, take-at}
 use Rattle.base.specs.Lists.{over}
+use Rattle.base.proofs.Lists.{over-take, over-rest, over-append}
 use Rattle.state.specs.declared.Record.{Record}
 use Rattle.state.specs.Valid.{valid}
 use Rattle.frame.specs.declared.Kind.the-variants.{Minicomputer}
@@ -64,8 +64,8 @@ module _ (r : Record) (a b o : List ℕ) (v : valid r ≡ true) where
   g = heardFrom 0 (length o - length (h .replies)) (h .after) (untaken h a ++ b)
 
   rest-is : rest ≡ drop (length (h .replies)) o
-  unfolding over rest
-  rest-is = drop-at (h .replies) (drop (length (h .replies)) o) (length (h .replies)) refl
+  unfolding rest
+  rest-is = over-rest (h .replies) o (length (h .replies)) refl
 
   rest-length : length rest ≡ length o - length (h .replies)
   rest-length = ap length rest-is ∙ length-drop (length (h .replies)) o
@@ -79,16 +79,10 @@ module _ (r : Record) (a b o : List ℕ) (v : valid r ≡ true) where
 
   -- both replies over the buffer, and the second over the rest of it
   both-laid : over (h .replies ++ g .replies) o ≡ take (length (h .replies)) (over (h .replies) o) ++ over (g .replies) rest
-  unfolding over
   both-laid =
-      let x : List ℕ = h .replies in
-      let y : List ℕ = g .replies in
-      let n : length (x ++ y) ≡ length x + length y = length-append x y in
-      append-assoc x y (drop (length (x ++ y)) o)
-      ∙ (ap (λ (i : ℕ). x ++ (y ++ drop i o)) n
-      ∙ (ap (λ (z : List ℕ). x ++ (y ++ z)) (sym (drop-drop (length y) (length x) o))
-      ∙ (ap (λ (z : List ℕ). x ++ (y ++ drop (length y) z)) (sym rest-is)
-      ∙ ap (λ (z : List ℕ). z ++ (y ++ drop (length y) rest)) (sym (take-at x (drop (length x) o) (length x) refl)))))
+      over-append (h .replies) (g .replies) o
+      ∙ (ap (λ (z : List ℕ). h .replies ++ over (g .replies) z) (sym rest-is)
+      ∙ ap (λ (z : List ℕ). z ++ over (g .replies) rest) (sym (over-take (h .replies) o (length (h .replies)) refl)))
 
   joined : reportOf 0 (h then g) o ≡ bothCalls (reportOf 0 h o) (reportOf 0 g rest)
   joined = ap (λ (n : ℕ). left n (over (h .replies ++ g .replies) o)) (length-append (h .replies) (g .replies)) ∙ ap (left (length (h .replies) + length (g .replies))) both-laid

@@ -2,15 +2,15 @@
 use Prim.Native.Nat.{ℕ, suc, _+_, _-_, _^_, _≤_, _<_}
 use mathlib.Core.Bool.{Bool, true, false, not}
 use mathlib.Core.Path.{_≡_, refl, sym, ap, _∙_}
-use mathlib.Core.List.{List, [], _++_, append-assoc, append-nil}
+use mathlib.Core.List.{List, [], _++_, append-nil}
 use native.Mathlib.Omega.{arith}
 use lib.ListN.{length, take, drop, getD, replicate, length-append, length-drop, length-take, drop-of-length-le}
-use lib.Seq.{drop-at, drop-drop, getD-drop, take-at, take-all}
+use lib.Seq.{drop-drop, getD-drop, take-all}
 use borrow.Rule.Slice.PartMut.{putMid}
 use borrow.Author.Tests.{not-true, not-false}
 use Rattle.base.specs.Test.{unless}
 use Rattle.base.specs.Lists.{over}
-use Rattle.base.proofs.Lists.{over-length}
+use Rattle.base.proofs.Lists.{over-length, over-take, over-rest, over-append}
 use Rattle.state.specs.declared.Record.{Record}
 use Rattle.state.specs.Valid.{valid}
 use Rattle.frame.specs.declared.Kind.the-variants.{Minicomputer}
@@ -136,23 +136,15 @@ module _ {s o₀ : List ℕ} {r₀ : Record} {o : List ℕ} {p a u : ℕ} {r : R
 -- ---- the rest of the buffer comes back with a reply over its start
 laid-on : (d x o₀ o ys : List ℕ) (u : ℕ) → length d ≡ u → u ≤ length o₀ → o ≡ over d o₀ → ys ≡ over x (take (length o - u) (drop u o))
     → putMid u (length o - u) o ys ≡ over (d ++ x) o₀
-unfolding over
 laid-on d x o₀ o ys u e h l y =
-    let t : List ℕ = drop (length d) o₀ in
     let n : length o ≡ length o₀ = ap length l ∙ over-length d o₀ (omega arith) in
-    let a : take u o ≡ d = ap (take u) l ∙ take-at d t u e in
-    let b : drop u o ≡ t = ap (drop u) l ∙ drop-at d t u e in
-    let k : length t ≤ length o - u = simp length-drop (omega arith) in
-    let c : take (length o - u) (drop u o) ≡ t = ap (take (length o - u)) b ∙ take-all (length o - u) t k in
-    let g : drop (length o - u) (drop u o) ≡ [] = ap (drop (length o - u)) b ∙ drop-of-length-le t k in
-    let z : ys ≡ x ++ drop (length x) t = y ∙ ap (λ (v : List ℕ). x ++ drop (length x) v) c in
-    let m : length d + length x ≡ length (d ++ x) = sym (length-append d x) in
+    let a : take u o ≡ d = ap (take u) l ∙ over-take d o₀ u e in
+    let b : drop u o ≡ drop u o₀ = ap (drop u) l ∙ over-rest d o₀ u e in
+    let k : length (drop u o) ≤ length o - u = simp length-drop (omega arith) in
+    let c : take (length o - u) (drop u o) ≡ drop (length d) o₀ = take-all (length o - u) (drop u o) k ∙ (b ∙ ap (λ (i : ℕ). drop i o₀) (sym e)) in
+    let g : drop (length o - u) (drop u o) ≡ [] = drop-of-length-le (drop u o) k in
     ap (λ (v : List ℕ). v ++ (ys ++ drop (length o - u) (drop u o))) a
-    ∙ (ap (λ (v : List ℕ). d ++ (v ++ drop (length o - u) (drop u o))) z
-    ∙ (ap (λ (v : List ℕ). d ++ ((x ++ drop (length x) t) ++ v)) g
-    ∙ (ap (λ (v : List ℕ). d ++ v) (append-nil (x ++ drop (length x) t))
-    ∙ (ap (λ (v : List ℕ). d ++ (x ++ v)) (drop-drop (length x) (length d) o₀ ∙ ap (λ (v : ℕ). drop v o₀) m)
-    ∙ sym (append-assoc d x (drop (length (d ++ x)) o₀))))))
+    ∙ (ap (λ (v : List ℕ). d ++ (ys ++ v)) g ∙ (ap (λ (v : List ℕ). d ++ v) (append-nil ys ∙ (y ∙ ap (over x) c)) ∙ sym (over-append d x o₀)))
 
 -- ---- what the walk to the next frame finds
 module _ {s o₀ : List ℕ} {r₀ : Record} {o : List ℕ} {t a u : ℕ} {r : Record} (w₀ : Walking s o₀ r₀ o t a u r) (x : Found) (found : x ≡ foundFrom t (drop t s)) where
