@@ -18,19 +18,15 @@ use Rattle.state.specs.Valid.{valid}
 use Rattle.frame.specs.declared.Kind.{Kind}
 use Rattle.frame.specs.Frame.{allText, namesUnit, addressIn, frameOf, textIn, withinLimits, marksRight, checkRight}
 use Rattle.command.specs.Answer.{replyText}
-use Rattle.controller.specs.Call.{Outcome, silent, replied, callOf}
+use Rattle.controller.specs.Call.{Outcome, replyIn, silent, replied, callOf}
 use Rattle.controller.proofs.Theorems.{Silenced, Answered, every-input}
-
--- the bytes shown
-abbrev pub shownBy : Outcome → List ℕ
-shownBy c = take (c .reported) (c .buffer)
 
 -- two outcomes have the same silence, report the same, leave the same record and show the same bytes
 pub record Alike (x y : Outcome) : Type 0 where
   pub same-silence : x .silence ≡ y .silence
   pub same-length : x .reported ≡ y .reported
   pub same-record : x .after ≡ y .after
-  pub same-bytes : shownBy x ≡ shownBy y
+  pub same-bytes : replyIn x ≡ replyIn y
 
 alike-by : (b : Bool) {x y x′ y′ : Outcome} → Alike x x′ → Alike y y′ → Alike (unless b x y) (unless b x′ y′)
 alike-by true p q = q
@@ -66,23 +62,23 @@ module _ (k : Kind) (r : Record) (q o : List ℕ) where
   outcome = callOf k r q o
 
   -- those of an answer are its frame; a silence shows none
-  frame-shown : Answered k r q o → shownBy outcome ≡ frameOf k (replyText (textIn k q) r)
+  frame-shown : Answered k r q o → replyIn outcome ≡ frameOf k (replyText (textIn k q) r)
   frame-shown a =
       let f : List ℕ = frameOf k (replyText (textIn k q) r) in
       ap (λ (n : ℕ). take n (outcome .buffer)) (a .size) ∙ (ap (take (length f)) (a .frame) ∙ over-take f o (length f) refl)
 
-  none-shown : Silenced k r q o → shownBy outcome ≡ []
+  pub none-shown : Silenced k r q o → replyIn outcome ≡ []
   none-shown s = ap (λ (n : ℕ). take n (outcome .buffer)) (s .nothing)
 
   -- they are laid over the buffer, and that is all
-  pub buffer-left : outcome .buffer ≡ over (shownBy outcome) o
+  pub buffer-left : outcome .buffer ≡ over (replyIn outcome) o
   unfolding over
   buffer-left =
       ⊎-elim (λ (s : Silenced k r q o). s .same-buffer ∙ sym (ap (λ (x : List ℕ). over x o) (none-shown s)))
       (λ (a : Answered k r q o). a .frame ∙ sym (ap (λ (x : List ℕ). over x o) (frame-shown a))) (every-input k r q o)
 
   -- no more than 64 bytes are reported, and as many are shown
-  pub shown-length : (length (shownBy outcome) ≡ outcome .reported) × (outcome .reported ≤ 64)
+  pub shown-length : (length (replyIn outcome) ≡ outcome .reported) × (outcome .reported ≤ 64)
   shown-length =
       ⊎-elim (λ (s : Silenced k r q o). (ap length (none-shown s) ∙ sym (s .nothing), omega (arith, s .nothing)))
       (λ (a : Answered k r q o). (ap length (frame-shown a) ∙ sym (a .size), a .high)) (every-input k r q o)

@@ -2,7 +2,7 @@
 use Prim.Native.Nat.{ℕ}
 use mathlib.Core.List.{List}
 use lib.Dec.{eqb, leb}
-use lib.ListN.{length}
+use lib.ListN.{length, take}
 use Rattle.state.specs.declared.Record.{Record}
 use Rattle.state.specs.Field.{address, get}
 use Rattle.state.specs.Valid.{valid}
@@ -23,6 +23,10 @@ pub record Outcome : Type 0 where
   pub reported : ℕ
   pub after : Record
   pub buffer : List ℕ
+
+-- "the buffer's bytes up to that length"; nothing for a silence
+abbrev pub replyIn : Outcome → List ℕ
+replyIn c = take (c .reported) (c .buffer)
 
 -- "length 0, record and buffer untouched"
 abbrev pub silent : ℕ → Record → List ℕ → Outcome

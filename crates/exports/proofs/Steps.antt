@@ -318,7 +318,7 @@ pub ruleset hearing = (never-silent, left-served)
 
 -- ---- `khuyapesh_several`
 module _ (s q o : List ℕ) (a : Answer) (r : Record) (e : (answerAs a, r) ≡ stored.readOf s) (x : ℕ) (z : x ≡ openAnswer (answerAs a) (hasRoom s)) where
-  pub several-refused : (y : Numbers) → (x ≡ 0 → ⊥) → y ≡ record { answer = x; taken = 0; answered = 0; written = 0 } → severalAs y s o ≡ severalBytes s q o
+  pub several-refused : (y : Numbers) → (x ≡ 0 → ⊥) → y ≡ record { answer = x; report = record { taken = 0; answered = 0; written = 0 } } → severalAs y s o ≡ severalBytes s q o
   unfolding severalBytes
   several-refused y h f = ap (λ (z : Numbers). severalAs z s o) f ∙ refused-so s (λ m. nothingTaken m s o) (λ t. severalLeft (severalOf t q o) s o) x r (opened-read s a r e x z) h
 

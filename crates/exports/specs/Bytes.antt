@@ -111,7 +111,7 @@ abbrev pub severalNumbers : ℕ → ℕ → ℕ → ℕ → List ℕ → List �
 severalNumbers n p a u s o = record { answer = n; taken = p; answered = a; written = u; stored = s; reply = o }
 
 abbrev pub severalAs : Numbers → List ℕ → List ℕ → SeveralLeft
-severalAs x s o = severalNumbers (x .answer) (x .taken) (x .answered) (x .written) s o
+severalAs x s o = severalNumbers (x .answer) (x .report .taken) (x .report .answered) (x .report .written) s o
 
 -- "the three numbers are 0 and nothing else is changed"
 abbrev pub nothingTaken : ℕ → List ℕ → List ℕ → SeveralLeft

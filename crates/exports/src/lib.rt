@@ -5,6 +5,7 @@ use frame::Kind;
 use frame::Silence;
 use frame::TextRead;
 use judging::Judgement;
+use several::Report;
 use state::Event;
 use state::Record;
 use stored::Refusal;
@@ -208,20 +209,20 @@ pub extern "C" fn khuyapesh_call(
 // The answer, and what is reported.
 struct Numbers {
     pub answer: u32,
-    pub taken: usize,
-    pub answered: usize,
-    pub written: usize,
+    pub report: Report,
 }
 
 // Nothing is taken.
 fn nothing_taken(answer: u32) -> Numbers
-    ensures { λ x. ⌜ x ≡ record { answer = answer; taken = 0; answered = 0; written = 0 } ⌝ }
+    ensures { λ x. ⌜ x ≡ record { answer = answer; report = record { taken = 0; answered = 0; written = 0 } } ⌝ }
 {
     Numbers {
         answer: answer,
-        taken: 0,
-        answered: 0,
-        written: 0,
+        report: Report {
+            taken: 0,
+            answered: 0,
+            written: 0,
+        },
     }
 }
 
@@ -239,9 +240,7 @@ fn several_record(before: Record, stored: &mut [u8], bytes: &[u8], reply: &mut [
             stored::write(last, stored);
             Numbers {
                 answer: 0,
-                taken: report.taken,
-                answered: report.answered,
-                written: report.written,
+                report: report,
             }
         }
     }
@@ -273,9 +272,10 @@ pub extern "C" fn khuyapesh_several(
     ensures { λ n. ⌜ severalNumbers n (now (taken .exit)) (now (answered .exit)) (now (written .exit)) (now (stored .exit)) (now (reply .exit)) ≡ severalBytes (now (stored .entry)) (now (bytes .entry)) (now (reply .entry)) ⌝ }
 {
     let numbers = several_stored(stored, bytes, reply);
-    *taken = numbers.taken;
-    *answered = numbers.answered;
-    *written = numbers.written;
+    let report = numbers.report;
+    *taken = report.taken;
+    *answered = report.answered;
+    *written = report.written;
     numbers.answer
 }
 

@@ -16,9 +16,9 @@ use Rattle.frame.specs.declared.Kind.the-variants.{Minicomputer}
 use Rattle.frame.specs.Frame.{stx, etx, pad, checkOf, isText, allText, frameOf, marksRight}
 use Rattle.frame.proofs.Laws.{frame-length, found}
 use Rattle.frame.proofs.RoundTrip.{frame-located}
-use Rattle.controller.specs.Call.{Outcome}
+use Rattle.controller.specs.Call.{Outcome, replyIn}
 use Rattle.controller.proofs.Buffers.{shown-length}
-use Rattle.several.specs.Several.{whole, passed, undecided, through, endAt, searched, placeOf, called, replyIn, Step, stop, skip, full, silent, answer, stepOf, Heard, nothing, taking, answering, _then_, follow, heardFrom}
+use Rattle.several.specs.Several.{whole, passed, undecided, through, endAt, searched, placeOf, called, Step, stop, skip, full, silent, answer, stepOf, Heard, nothing, taking, answering, _then_, follow, heardFrom}
 use Rattle.several.specs.OneByOne.{calls, endToEnd, answeredIn, lastRecord, AllLegal, framesOf, allHeard}
 use Rattle.several.proofs.Joined.{made, made-same, then-assoc, taking-more, pass, onward}
 use Rattle.several.proofs.Steps.{Quiet, Tells, step-tells}

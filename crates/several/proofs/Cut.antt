@@ -14,9 +14,9 @@ use Rattle.base.proofs.Tests.{never}
 use Rattle.base.specs.Test.{pick, unless}
 use Rattle.state.specs.declared.Record.{Record}
 use Rattle.frame.specs.declared.Kind.the-variants.{Minicomputer}
-use Rattle.controller.specs.Call.{Outcome}
+use Rattle.controller.specs.Call.{Outcome, replyIn}
 use Rattle.controller.proofs.Buffers.{shown-length}
-use Rattle.several.specs.Several.{Place, passed, undecided, whole, placeOf, called, replyIn, Step, stop, skip, full, silent, answer, handed, stepOf, Heard, nothing, taking, answering, _then_, follow, heardFrom}
+use Rattle.several.specs.Several.{Place, passed, undecided, whole, placeOf, called, Step, stop, skip, full, silent, answer, handed, stepOf, Heard, nothing, taking, answering, _then_, follow, heardFrom}
 use Rattle.several.specs.OneByOne.{endToEnd, untaken, ticks, Roomy, AllRoomy}
 use Rattle.several.proofs.Joined.{made-same, then-assoc, nothing-then, onward}
 use Rattle.several.proofs.Places.{whole-told, place-append, undecided-short}

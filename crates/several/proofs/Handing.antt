@@ -6,12 +6,12 @@ use mathlib.Core.Path.{_≡_, refl, sym, ap, subst, _∙_}
 use mathlib.Core.List.{List, [], _∷_}
 use native.Mathlib.Omega.{arith}
 use lib.Dec.{eqb, leb}
-use lib.ListN.{length, take, drop, replicate}
+use lib.ListN.{length, take, drop, replicate, getD}
 use lib.Seq.{take-nil, take-take}
 use borrow.Author.Tests.{le-leb, lt-leb, leb-true, leb-false, eq-eqb, ne-eqb, eqb-true, eqb-false}
 use Rattle.base.specs.Test.{unless}
 use Rattle.base.specs.Lists.{over}
-use Rattle.base.proofs.Tests.{by-test, never}
+use Rattle.base.proofs.Tests.{never}
 use Rattle.state.specs.declared.Record.{Record}
 use Rattle.state.specs.Valid.{valid}
 use Rattle.frame.specs.declared.Kind.the-variants.{Minicomputer}
@@ -26,11 +26,12 @@ use Rattle.command.specs.Request.{effectAs}
 use Rattle.controller.specs.declared.Replied.{Replied}
 use Rattle.controller.specs.declared.Answer as controller
 use Rattle.controller.specs.declared.Answer.the-variants.{Silent, Reply}
-use Rattle.controller.specs.Call.{Outcome, silent, replied, replyOf, callOf, answerSilence, outcomeAs}
+use Rattle.controller.specs.Call.{Outcome, silent, replied, replyOf, callOf, answerSilence, outcomeAs, replyIn}
+use Rattle.controller.proofs.Exactly.{tests, heard-exactly, silence-exactly}
 use Rattle.controller.proofs.Buffers.{Alike, calls-with-room, buffer-left}
 use Rattle.several.specs.declared.Due.{Due}
 use Rattle.several.specs.declared.Due.the-variants.{Refused, OtherUnit, NoRoom, Answered}
-use Rattle.several.specs.Several.{called, replyIn, full, answer, handed}
+use Rattle.several.specs.Several.{called, full, answer, handed}
 use Rattle.several.specs.Several as several
 use Rattle.several.specs.Answers.{dueBy, dueOf}
 
@@ -59,7 +60,7 @@ pub ruleset owing = (due-refused, due-other, due-full, due-answered)
 module _ (d room : ℕ) (q : List ℕ) where
   -- what is due to a frame for the unit a, with a text of n bytes
   abbrev dueFor : ℕ → ℕ → Due
-  dueFor a n = unless (eqb a d) OtherUnit (unless (leb 64 room) NoRoom (Answered n))
+  dueFor a n = dueBy d room (unit a n)
 
   for-unit : (x : Due) → (Refused ≡ x → ⊥) → dueOf d room q ≡ x → (a : ℕ) × (n : ℕ) × Named Minicomputer q a n × (dueFor a n ≡ x)
   unfolding dueOf
@@ -113,29 +114,26 @@ module _ (d room : ℕ) (q : List ℕ) where
       go n h false p i = absurd (never (cc))
 
 -- ---- the call
+
+-- something is due to a frame that passes the tests of S1 to S7
+tested-due : (r : Record) (q : List ℕ) (room : ℕ) → ((j : ℕ) → j < 7 → getD (tests Minicomputer r q (replicate 64 0)) j true ≡ true)
+    → dueOf (r .address) room q ≡ Refused → ⊥
+unfolding dueOf addressOf locateOf
+tested-due r q room passed e =
+    let t : List ℕ = textIn Minicomputer q in
+    let limits : withinLimits Minicomputer (length q) ≡ true = passed 2 (omega arith) in
+    let marks : marksRight Minicomputer q ≡ true = passed 3 (omega arith) in
+    let sum : checkRight Minicomputer q ≡ true = passed 4 (omega arith) in
+    let bytes : allText t ≡ true = passed 5 (omega arith) in
+    let names : namesUnit t ≡ true = passed 6 (omega arith) in
+    some (eqb (addressIn t) (r .address)) (leb 64 room) (length t) (sym (simp (limits, marks, sum, bytes, names)) ∙ e)
+  where
+    some : (b c : Bool) (n : ℕ) → unless b OtherUnit (unless c NoRoom (Answered n)) ≡ Refused → ⊥
+    some true true n f = never (cc)
+    some true false n f = never (cc)
+    some false c n f = never (cc)
+
 module _ (r : Record) (q : List ℕ) (v : valid r ≡ true) where
-  -- S3 to S7
-  silent-range : (room : ℕ) → dueOf (r .address) room q ≡ Refused → (3 ≤ called r q .silence) × (called r q .silence ≤ 7)
-  unfolding callOf dueOf addressOf locateOf
-  silent-range room e =
-      let t : List ℕ = textIn Minicomputer q in
-      by-test (withinLimits Minicomputer (length q)) (λ l. by-test (marksRight Minicomputer q) (λ m. by-test (checkRight Minicomputer q) (λ c. by-test (allText t)
-      (λ x. by-test (namesUnit t)
-      (λ n. absurd (some (eqb (addressIn t) (r .address)) (leb 64 room) (length t) (sym (simp (l, m, c, x, n)) ∙ e)))
-      (λ n. in-range 7 (omega arith) (omega arith) (simp (v, l, m, c, x, n))))
-      (λ x. in-range 6 (omega arith) (omega arith) (simp (v, l, m, c, x))))
-      (λ c. in-range 5 (omega arith) (omega arith) (simp (v, l, m, c))))
-      (λ m. in-range 4 (omega arith) (omega arith) (simp (v, l, m))))
-      (λ l. in-range 3 (omega arith) (omega arith) (simp (v, l)))
-    where
-      in-range : (n : ℕ) → 3 ≤ n → n ≤ 7 → called r q ≡ silent n r (replicate 64 0) → (3 ≤ called r q .silence) × (called r q .silence ≤ 7)
-      in-range n x y w = let i : called r q .silence ≡ n = ap (λ (c : Outcome). c .silence) w in (omega arith, omega arith)
-
-      some : (b c : Bool) (n : ℕ) → unless b OtherUnit (unless c NoRoom (Answered n)) ≡ Refused → ⊥
-      some true true n f = never (cc)
-      some true false n f = never (cc)
-      some false c n f = never (cc)
-
   -- S8, or a reply
   unit-called : (a n : ℕ) → Named Minicomputer q a n → (o : List ℕ) → 64 ≤ length o
       → callOf Minicomputer r q o ≡ unless (eqb a (r .address)) (silent 8 r o) (replied Minicomputer (textIn Minicomputer q) r o)
@@ -154,9 +152,8 @@ module _ (r : Record) (q : List ℕ) (v : valid r ≡ true) where
   module _ (n room : ℕ) where
     pub step-refused : dueOf (r .address) room q ≡ Refused → handed n room (called r q) ≡ several.silent n 0
     step-refused e =
-        let h = silent-range room e in
-        let x : called r q .silence ≡ 0 → ⊥ = λ z. omega (arith, h .0) in
-        let y : called r q .silence ≡ 8 → ⊥ = λ z. omega (arith, h .1) in
+        let x : called r q .silence ≡ 0 → ⊥ = λ z. tested-due r q room (λ j l. heard-exactly Minicomputer r q (replicate 64 0) .0 z j) e in
+        let y : called r q .silence ≡ 8 → ⊥ = λ z. tested-due r q room (silence-exactly Minicomputer r q (replicate 64 0) 7 .0 z .before) e in
         simp (ne-eqb (called r q .silence) 0 x, ne-eqb (called r q .silence) 8 y)
 
     pub step-other : dueOf (r .address) room q ≡ OtherUnit → handed n room (called r q) ≡ several.silent n (n - 1)

@@ -11,8 +11,8 @@ use lib.Seq.{drop-drop}
 use borrow.Author.Tests.{eq-eqb, ne-eqb}
 use Rattle.base.specs.Test.{pick}
 use Rattle.state.specs.declared.Record.{Record}
-use Rattle.controller.specs.Call.{Outcome}
-use Rattle.several.specs.Several.{placeOf, whole, called, replyIn, Step, stop, skip, full, silent, answer, stepOf, Heard, nothing, taking, answering, _then_, follow, heardFrom}
+use Rattle.controller.specs.Call.{Outcome, replyIn}
+use Rattle.several.specs.Several.{placeOf, whole, called, Step, stop, skip, full, silent, answer, stepOf, Heard, nothing, taking, answering, _then_, follow, heardFrom}
 use Rattle.several.specs.OneByOne.{Stretch, cutOut, calls, endToEnd, repliesIn, answeredIn, lastRecord, nextStart, InOrder, OneByOne}
 use Rattle.several.proofs.Joined.{onward}
 use Rattle.several.proofs.Places.{whole-told}

@@ -8,9 +8,9 @@ use lib.ListN.{length, take, replicate, length-append, length-take}
 use Rattle.state.specs.declared.Record.{Record}
 use Rattle.frame.specs.declared.Kind.the-variants.{Minicomputer}
 use Rattle.frame.proofs.Laws.{limits-low}
-use Rattle.controller.specs.Call.{Outcome, silent}
+use Rattle.controller.specs.Call.{Outcome, silent, replyIn}
 use Rattle.controller.proofs.Exactly.{heard-exactly}
-use Rattle.several.specs.Several.{placeOf, called, replyIn, Step, stop, skip, full, answer, stepOf, Heard, follow, heardFrom}
+use Rattle.several.specs.Several.{placeOf, called, Step, stop, skip, full, answer, stepOf, Heard, follow, heardFrom}
 use Rattle.several.specs.Several as several
 use Rattle.several.specs.OneByOne.{Roomy}
 use Rattle.several.proofs.Joined.{onward}

@@ -1,7 +1,7 @@
 -- What each step of the walk tells of the bytes, the call and the room. Assumes nothing.
 use Prim.Native.Nat.{ℕ, _-_, _≤_, _<_}
 use mathlib.Core.Bool.{Bool, true, false}
-use mathlib.Core.Path.{_≡_, refl, ap}
+use mathlib.Core.Path.{_≡_, refl}
 use mathlib.Core.List.{List, [], _∷_}
 use mathlib.Core.Logic.{_⊎_, inl, inr, ⊎-elim}
 use native.Mathlib.Omega.{arith}
@@ -11,10 +11,11 @@ use borrow.Author.Tests.{leb-true, leb-false, eqb-true, eqb-false}
 use Rattle.base.specs.Test.{pick, unless}
 use Rattle.state.specs.declared.Record.{Record}
 use Rattle.frame.specs.declared.Kind.the-variants.{Minicomputer}
-use Rattle.controller.specs.Call.{Outcome}
+use Rattle.controller.specs.Call.{Outcome, replyIn}
 use Rattle.controller.proofs.Theorems.{Silenced, every-input}
 use Rattle.controller.proofs.Theorems as call
-use Rattle.several.specs.Several.{Place, passed, undecided, whole, placeOf, called, replyIn, Step, stop, skip, full, silent, answer, stepOf}
+use Rattle.controller.proofs.Buffers.{none-shown}
+use Rattle.several.specs.Several.{Place, passed, undecided, whole, placeOf, called, Step, stop, skip, full, silent, answer, stepOf}
 use Rattle.several.proofs.Places.{whole-told}
 
 -- ---- a frame that gets no answer changes nothing
@@ -26,7 +27,7 @@ pub record Quiet (r : Record) (q : List ℕ) : Type 0 where
 quiet : (r : Record) (q : List ℕ) → (called r q .silence ≡ 0 → ⊥) → Quiet r q
 quiet r q e =
     ⊎-elim
-    (λ (s : Silenced Minicomputer r q (replicate 64 0)). record { low = s .low; reply = ap (λ (n : ℕ). take n (called r q .buffer)) (s .nothing); same = s .same-record })
+    (λ (s : Silenced Minicomputer r q (replicate 64 0)). record { low = s .low; reply = none-shown Minicomputer r q (replicate 64 0) s; same = s .same-record })
     (λ (b : call.Answered Minicomputer r q (replicate 64 0)). absurd (e (b .heard)))
     (every-input Minicomputer r q (replicate 64 0))
 

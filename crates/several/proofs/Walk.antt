@@ -24,7 +24,7 @@ use Rattle.command.proofs.Serving.{effect-none, effect-written}
 use Rattle.controller.specs.declared.Replied.{Replied}
 use Rattle.controller.specs.declared.Answer as controller
 use Rattle.controller.specs.declared.Answer.the-variants.{Silent, Reply}
-use Rattle.controller.specs.Call.{Outcome, replyOf, answerLength, outcomeAs}
+use Rattle.controller.specs.Call.{Outcome, replyOf, answerLength, outcomeAs, replyIn}
 use Rattle.controller.proofs.Theorems.{call-keeps-valid, address-kept}
 use Rattle.controller.proofs.Buffers.{shown-length}
 use Rattle.several.specs.declared.Due.{Due}
@@ -32,7 +32,7 @@ use Rattle.several.specs.declared.Due.the-variants.{Refused, OtherUnit, 
 use Rattle.several.specs.declared.Found.{Found}
 use Rattle.several.specs.declared.Found.the-variants.{Frame, Stop}
 use Rattle.several.specs.declared.Called.{Called}
-use Rattle.several.specs.Several.{Place, whole, placeOf, called, replyIn, Step, full, silent, answer, handed, Heard, nothing, taking, answering, _then_, stepOf, follow, heardFrom, reportOf, severalOf}
+use Rattle.several.specs.Several.{Place, whole, placeOf, called, Step, full, silent, answer, handed, Heard, nothing, taking, answering, _then_, stepOf, follow, heardFrom, reportOf, severalOf}
 use Rattle.several.specs.Answers.{severalAs, servedAs, foundFrom, dueOf}
 use Rattle.several.proofs.Joined.{made, made-same, then-assoc, nothing-then, then-nothing, onward, onward-to, at-byte}
 use Rattle.several.proofs.Seek.{Leads, ends, leads}

@@ -7,10 +7,10 @@ use lib.Dec.{eqb, leb, ltb}
 use lib.ListN.{length, take, drop}
 use Rattle.base.specs.Test.{pick}
 use Rattle.state.specs.declared.Record.{Record}
-use Rattle.controller.specs.Call.{Outcome}
+use Rattle.controller.specs.Call.{Outcome, replyIn}
 use Rattle.frame.specs.declared.Kind.the-variants.{Minicomputer}
 use Rattle.frame.specs.Frame.{stx, allText, frameOf}
-use Rattle.several.specs.Several.{through, placeOf, called, replyIn, Step, stop, skip, full, silent, answer, stepOf, Heard, _then_, heardFrom, Several, severalOf}
+use Rattle.several.specs.Several.{through, placeOf, called, Step, stop, skip, full, silent, answer, stepOf, Heard, _then_, heardFrom, Several, severalOf}
 
 -- ---- frames that are called one by one
 

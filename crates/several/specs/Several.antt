@@ -9,7 +9,7 @@ use Rattle.state.specs.declared.Record.{Record}
 use Rattle.state.specs.Valid.{valid}
 use Rattle.frame.specs.declared.Kind.the-variants.{Minicomputer}
 use Rattle.frame.specs.Frame.{stx, etx, isText}
-use Rattle.controller.specs.Call.{Outcome, callOf}
+use Rattle.controller.specs.Call.{Outcome, replyIn, callOf}
 
 -- ---- what stands at a place: a byte that is skipped or a break; what the bytes do not decide; a frame of so many bytes
 pub data Place : Type 0 where
@@ -40,10 +40,6 @@ placeOf x xs = unless (eqb x stx) passed (searched xs)
 -- ---- a frame that is handed over: document 01's call, with a reply buffer of its own
 abbrev pub called : Record → List ℕ → Outcome
 called r q = callOf Minicomputer r q (replicate 64 0)
-
--- its reply; nothing for a silence
-abbrev pub replyIn : Outcome → List ℕ
-replyIn c = take (c .reported) (c .buffer)
 
 -- ---- a step of the walk
 pub data Step : Type 0 where
