@@ -7,10 +7,11 @@
  *     what is only read, no other thread writes meanwhile;
  *     what points to a size_t is aligned as size_t is.
  *
- * A call takes under KHUYAPESH_STACK bytes of stack and no heap, writes no data but what is lent, and needs nothing outside
- * of the library but memcpy, memmove, memset or memcmp. So every function is re-entrant, and threads may call at the same
- * time, each over buffers of its own. (A dynamic linker that looks up memcpy when it is first called takes stack of its own
- * then; linking with -z now, or statically, avoids that.)
+ * A call takes under KHUYAPESH_STACK bytes of stack (khuyapesh_board, which holds all records while it works, under
+ * KHUYAPESH_BOARD_STACK) and no heap, writes no data but what is lent, and needs nothing outside of the library but memcpy,
+ * memmove, memset or memcmp. So every function is re-entrant, and threads may call at the same time, each over buffers of
+ * its own. (A dynamic linker that looks up memcpy when it is first called takes stack of its own then; linking with -z now,
+ * or statically, avoids that.)
  *
  * A record is lent in its stored form. A silence or refusal leaves every lent byte as it was, unless said otherwise. */
 #ifndef KHUYAPESH_H
@@ -20,13 +21,15 @@
 #include <stdint.h>
 
 #define KHUYAPESH_STACK 4096
+#define KHUYAPESH_BOARD_STACK 12288
 
 /* Bytes of a stored record as it is written, which is version 2; of the longest frame, and the least room for a reply, a
- * built frame or a text that is read; of the longest recording. Stored bytes of version 1 have 177 and are only read: they
+ * built frame or a text that is read; of the longest recording. The most records on one board. Stored bytes of version 1 have 177 and are only read: they
  * hold no alarms, and the record that is read from them has none on. */
 #define KHUYAPESH_STORED_LENGTH 180
 #define KHUYAPESH_FRAME_ROOM 64
 #define KHUYAPESH_RECORDING_LENGTH 65535
+#define KHUYAPESH_BOARD_RECORDS 16
 
 /* The kind of a link. */
 #define KHUYAPESH_MINICOMPUTER 0
@@ -47,7 +50,8 @@
 #define KHUYAPESH_REFUTED 1u
 /* or, from 100 on, one of these classes plus the number that documents 01 and 02 give within it:
  *     silences: S2 short reply buffer, S3 request's length, S4 mark, S5 check, S6 text byte, S7 address or code not of its
- *         form, S8 another address (a record that is not valid, S1, is answered by its K)
+ *         form, S8 another address, S9 no record or too many on a board, S11 an address twice on it (a record that is not
+ *         valid, S1 and S10, is answered by its K)
  *     stored bytes: K1 length, K2 version that is not the length's, K3 length field, K4 field out of range, K6
  *         short buffer
  *     no such kind or event: alone, nothing is added
@@ -86,6 +90,15 @@ uint32_t khuyapesh_call(uint8_t kind, uint8_t *stored, size_t stored_length, con
  * 8 that are lent, and as many more, is always enough. */
 uint32_t khuyapesh_several(uint8_t *stored, size_t stored_length, const uint8_t *bytes, size_t bytes_length, uint8_t *reply,
                            size_t reply_length, size_t *taken, size_t *answered, size_t *written);
+
+/* One call of a board with up to KHUYAPESH_BOARD_RECORDS records, each with an address of its own, lent end to end in their
+ * stored form: the request goes to the record with its address. Answers the reply's length, with the reply at the start of
+ * the reply buffer, the rest of which stays, and the record after it in its place; no byte of another record is written. Or
+ * no such kind, then K1 if stored_length is no multiple of KHUYAPESH_STORED_LENGTH, then S9, then K2 to K4 of the first
+ * record that is refused, whichever the request is for, then S11, then S2 to S8. Neither the reply nor the record depends on
+ * anything of another record but its address and that it is good. */
+uint32_t khuyapesh_board(uint8_t kind, uint8_t *stored, size_t stored_length, const uint8_t *request, size_t request_length,
+                         uint8_t *reply, size_t reply_length);
 
 /* One panel event; number is the count of pulses (KHUYAPESH_PULSES) or the alarm's number (KHUYAPESH_ALARM_ON and
  * KHUYAPESH_ALARM_OFF; one outside 1 to 19 changes nothing), and the others do not read it. Answers KHUYAPESH_DONE, with

@@ -2,6 +2,7 @@
 //! or a fixed amount of work for callgrind to count the instructions of. The inputs are of document
 //! 01, without alarms, so that the numbers of one delivery can be held against another's.
 
+use crate::board::MOST_RECORDS;
 use crate::fault::Fault;
 use crate::frame::{self, Kind, ETX, LEAST_BUFFER, STX};
 use crate::generate::recordings;
@@ -37,6 +38,9 @@ fn classes(seed: u64) -> Vec<Class> {
     for length in [8_192, 65_536] {
         classes.extend(streams(&mut random, length));
     }
+    for count in [2, MOST_RECORDS] {
+        classes.push(board(&mut random, count));
+    }
     classes
 }
 
@@ -61,6 +65,13 @@ fn framed(record: &Record, commands: &[&str]) -> Vec<Vec<u8>> {
     texts
         .map(|text| frame::framed(Kind::Minicomputer, text.as_bytes()))
         .collect()
+}
+
+/// Reads and writes by turns to this record.
+fn by_turns(record: &Record) -> Vec<Vec<u8>> {
+    let (reads, writes) = (framed(record, &READS), framed(record, &WRITES));
+    let pairs = reads.into_iter().zip(writes);
+    pairs.flat_map(|(read, write)| [read, write]).collect()
 }
 
 /// A record that accepts the writes in their order.
@@ -98,38 +109,52 @@ fn mixes(random: &mut Random, record: &Record) -> Vec<Mix> {
     ]
 }
 
+/// One function over a kind, stored bytes, a request and a reply buffer.
+type Call = fn(u8, &mut [u8], &[u8], &mut [u8]) -> u32;
+
+/// The requests one by one, each over what the last one left.
+fn called(call: Call, mut stored: Vec<u8>, requests: Vec<Vec<u8>>) -> Box<dyn FnMut()> {
+    let mut reply = [0; LEAST_BUFFER];
+    Box::new(move || {
+        for request in &requests {
+            black_box(call(0, &mut stored, request, &mut reply));
+        }
+    })
+}
+
 fn calls(random: &mut Random) -> Vec<Class> {
     let record = open_record(random);
-    let form = stored::form(&record);
-    let class = |(name, requests): Mix| {
-        let (mut form_first, mut form_second) = (form, form);
-        let (mut reply_first, mut reply_second) = ([0; 64], [0; 64]);
-        let requests_second = requests.clone();
-        Class {
-            name: name.to_string(),
-            unit: "call",
-            units: requests.len(),
-            library: Box::new(move || {
-                for request in &requests {
-                    let answer = library::call(0, &mut form_first, request, &mut reply_first);
-                    black_box(answer);
-                }
-            }),
-            second: Box::new(move || {
-                for request in &requests_second {
-                    let answer = interface::call(
-                        0,
-                        &mut form_second,
-                        request,
-                        &mut reply_second,
-                        Fault::None,
-                    );
-                    black_box(answer);
-                }
-            }),
-        }
+    let form = stored::form(&record).to_vec();
+    let second: Call =
+        |kind, stored, request, reply| interface::call(kind, stored, request, reply, Fault::None);
+    let class = |(name, requests): Mix| Class {
+        name: name.to_string(),
+        unit: "call",
+        units: requests.len(),
+        library: called(library::call, form.clone(), requests.clone()),
+        second: called(second, form.clone(), requests),
     };
     mixes(random, &record).into_iter().map(class).collect()
+}
+
+/// Reads and writes by turns to the last record of a board.
+fn board(random: &mut Random, count: usize) -> Class {
+    let mut record = open_record(random);
+    let mut forms = Vec::new();
+    for address in 1..=count as u8 {
+        record.address = address;
+        forms.extend(stored::form(&record));
+    }
+    let requests = by_turns(&record);
+    let second: Call =
+        |kind, stored, request, reply| interface::board(kind, stored, request, reply, Fault::None);
+    Class {
+        name: format!("board: {count} records"),
+        unit: "call",
+        units: requests.len(),
+        library: called(library::board, forms.clone(), requests.clone()),
+        second: called(second, forms, requests),
+    }
 }
 
 /// Reading a stored form and writing it again, which each call over bytes does beside its own work.
@@ -172,13 +197,7 @@ fn judged(random: &mut Random, length: usize) -> Class {
 fn streams(random: &mut Random, length: usize) -> Vec<Class> {
     let record = open_record(random);
     let form = stored::form(&record);
-    let reads = framed(&record, &READS);
-    let writes = framed(&record, &WRITES);
-    let turn = reads
-        .iter()
-        .zip(&writes)
-        .flat_map(|(read, write)| [read, write]);
-    let turn: Vec<u8> = turn.flatten().copied().collect();
+    let turn = by_turns(&record).concat();
     [
         ("frames", turn.repeat(length / turn.len())),
         ("noise", random.bytes(length)),

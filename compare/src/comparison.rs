@@ -4,6 +4,7 @@
 use crate::fault::Fault;
 use crate::frame::LEAST_BUFFER;
 use crate::several::Report;
+use crate::stored::STORED_LENGTH;
 use crate::{interface, library};
 use std::fmt::{self, Write};
 
@@ -63,6 +64,9 @@ pub struct Counts {
     pub several_frames: u64,
     pub answered: u64,
     pub stopped: u64,
+    pub boards: u64,
+    pub boards_answered: u64,
+    pub boards_refused: u64,
     pub panel_events: u64,
     pub stored_forms: u64,
     pub host_side: u64,
@@ -77,6 +81,7 @@ impl Counts {
     pub fn comparisons(&self) -> u64 {
         self.calls
             + self.several_frames
+            + self.boards
             + self.panel_events
             + self.stored_forms
             + self.host_side
@@ -89,13 +94,17 @@ impl fmt::Display for Counts {
     fn fmt(&self, formatter: &mut fmt::Formatter<'_>) -> fmt::Result {
         write!(
             formatter,
-            "calls {}, several frames {} (answered {}, stopped {}), panel events {}, \
+            "calls {}, several frames {} (answered {}, stopped {}), \
+             board calls {} (answered {}, refused {}), panel events {}, \
              stored forms {}, host side {}, enumerated {}, \
              recordings {} (fits {}, refuted {}, refused {})",
             self.calls,
             self.several_frames,
             self.answered,
             self.stopped,
+            self.boards,
+            self.boards_answered,
+            self.boards_refused,
             self.panel_events,
             self.stored_forms,
             self.host_side,
@@ -230,6 +239,55 @@ impl Comparison {
             return Ok(());
         }
         Err(not_the_same("one by one", stored, frames))
+    }
+
+    /// Compares one call over a board; answers the number, the stored records after it and the reply
+    /// buffer.
+    pub fn board(
+        &mut self,
+        kind: u8,
+        stored: &[u8],
+        request: &[u8],
+        reply: &[u8],
+    ) -> Result<(u32, Vec<u8>, Vec<u8>), Difference> {
+        self.count(|counts| &mut counts.boards);
+        let (answer, [after, reply]) = both(
+            || format!("board, kind {kind}"),
+            &[("request", request)],
+            [("stored", stored), ("reply", reply)],
+            |[stored, reply]| library::board(kind, stored, request, reply),
+            |[stored, reply]| interface::board(kind, stored, request, reply, self.fault),
+        )?;
+        if !self.enumerating {
+            self.counts.boards_answered += u64::from(answer < 100);
+            // Silences of the request aside.
+            self.counts.boards_refused += u64::from(answer > 108);
+        }
+        Ok((answer, after, reply))
+    }
+
+    /// Lends a good board a request to the record at a place, and that record alone to a call: what
+    /// comes of it has to be the same, and the other records have to stay. Answers the board after it.
+    pub fn board_and_call(
+        &mut self,
+        kind: u8,
+        stored: &[u8],
+        place: usize,
+        request: &[u8],
+        reply: &[u8],
+    ) -> Result<Vec<u8>, Difference> {
+        let (answer, after, laid) = self.board(kind, stored, request, reply)?;
+        let own = place * STORED_LENGTH..(place + 1) * STORED_LENGTH;
+        let (alone, form, laid_alone) = self.call(kind, &stored[own.clone()], request, reply)?;
+        let expected = [&stored[..own.start], &form, &stored[own.end..]].concat();
+        if answer == alone && after == expected && laid == laid_alone {
+            return Ok(after);
+        }
+        Err(Difference(format!(
+            "board and call, kind {kind}, place {place}\n  stored {}\n  request {}\n",
+            hexadecimal(stored),
+            hexadecimal(request)
+        )))
     }
 
     /// Compares one panel event; answers the stored record after it.

@@ -10,7 +10,7 @@ use crate::record::{Phase, Record, HIGHEST_NUMBER};
 /// What a call answers beside the record after it and the lent reply buffer.
 #[derive(Clone, Copy, PartialEq, Eq, Debug)]
 pub enum Outcome {
-    /// S1 to S8: the buffer is untouched.
+    /// S1 to S8, over a board S2 to S11: the buffer is untouched.
     Silence(u8),
     /// The length of the reply frame at the start of the buffer.
     Reply(usize),
@@ -70,19 +70,24 @@ pub fn refusal(address: u8, number: u8) -> ReplyText {
     text
 }
 
+/// The digits of an address in a text.
+pub fn digits(address: u8) -> [u8; 2] {
+    [b'0' + address / 10, b'0' + address % 10]
+}
+
 /// Reads a request frame up to what needs no more of the record than its address.
 pub fn understand(address: u8, kind: Kind, request: &[u8], fault: Fault) -> Request {
     let text = match frame::open(kind, request, fault) {
         Ok(text) => text,
         Err(silence) => return Request::Silent(silence),
     };
-    let digits = text[..2].iter().all(u8::is_ascii_digit);
+    let has_digits = text[..2].iter().all(u8::is_ascii_digit);
     let capitals = text[2..4].iter().all(u8::is_ascii_uppercase);
-    let own = text[..2] == [b'0' + address / 10, b'0' + address % 10];
-    if fault == Fault::AddressBeforeForm && digits && !own {
+    let own = text[..2] == digits(address);
+    if fault == Fault::AddressBeforeForm && has_digits && !own {
         return Request::Silent(8);
     }
-    if !digits || !capitals {
+    if !has_digits || !capitals {
         return Request::Silent(7);
     }
     if !own {

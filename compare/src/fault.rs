@@ -103,6 +103,22 @@ faults! {
     RefusalNotCounted "several: a frame answered by NO not counted",
     RefusedRecordTakesBytes "several: a stored record that is refused takes the bytes",
 
+    // A board with several records
+    FirstRecordOverwritten "board: the first record overwritten though the address is another's",
+    BehindFirstNotFound "board: S8 for an address behind the first record",
+    NeighbourTouched "board: a neighbour's flag touched",
+    FirstAccessForAll "board: the first record's access used for every record",
+    SixteenRefused "board: 16 records refused",
+    SeventeenTaken "board: 17 records taken",
+    EmptyListAsS8 "board: an empty list answered by S8",
+    AddressedValidAlone "board: S10 tested for the addressed record alone",
+    AddressedTwiceAlone "board: S11 tested for the addressed record alone",
+    ValidityBeforeNumber "board: S10 tested before S9",
+    TwiceBeforeValidity "board: S11 tested before S10",
+    BufferBeforeTwice "board: S2 tested before S11",
+    RestCutOff "board: a length that is no multiple cut down to whole records",
+    LastBadTold "board: the last bad record's number told",
+
     // Panel
     PulsesPastPreset "pulses end a batch at > instead of >=",
     PulsesWithoutModulo "raw grows without the modulo",

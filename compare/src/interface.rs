@@ -1,6 +1,7 @@
 //! This program behind the byte interface of the proved library, so that both are lent the same
 //! bytes.
 
+use crate::board;
 use crate::controller::{self, Outcome};
 use crate::fault::Fault;
 use crate::frame::{self, HostRefusal, Kind};
@@ -73,6 +74,67 @@ fn nothing_taken(bytes: &[u8], fault: Fault) -> Report {
     Report {
         taken,
         ..Report::default()
+    }
+}
+
+/// The records of a board, end to end in stored bytes; or K1, S9, or K2 to K4 of the first that is
+/// refused.
+fn lent_records(stored: &[u8], request: &[u8], fault: Fault) -> Result<Vec<Record>, u32> {
+    let forms = stored.chunks_exact(STORED_LENGTH);
+    if !forms.remainder().is_empty() && fault != Fault::RestCutOff {
+        return Err(201);
+    }
+    if let Some(silence) = board::refused_number(forms.len(), fault) {
+        return Err(100 + u32::from(silence));
+    }
+    forms
+        .filter(|form| !is_passed_over(form, request, fault))
+        .map(|form| lent_record(form, fault))
+        .collect()
+}
+
+/// Whether a planted fault passes over a form that is refused, since the request is to another.
+fn is_passed_over(form: &[u8], request: &[u8], fault: Fault) -> bool {
+    fault == Fault::AddressedValidAlone
+        && lent_record(form, fault).is_err()
+        && request.get(1..3) != Some(&controller::digits(form[3]))
+}
+
+/// What planted faults answer to a board instead of its refusal.
+#[cold]
+fn misrefused(stored: &[u8], refusal: u32, fault: Fault) -> u32 {
+    let mut forms = stored.chunks_exact(STORED_LENGTH);
+    let refused = |form| lent_record(form, fault).err();
+    let of_a_record = (202..=204).contains(&refusal);
+    match fault {
+        Fault::ValidityBeforeNumber if refusal == 109 => forms.find_map(refused).unwrap_or(refusal),
+        Fault::LastBadTold if of_a_record => forms.rev().find_map(refused).unwrap_or(refusal),
+        Fault::TwiceBeforeValidity
+            if of_a_record && board::has_twice(forms.map(|form| form[3])) =>
+        {
+            111
+        }
+        _ => refusal,
+    }
+}
+
+pub fn board(kind: u8, stored: &mut [u8], request: &[u8], reply: &mut [u8], fault: Fault) -> u32 {
+    let Some(kind) = kind_of(kind) else {
+        return UNKNOWN_KIND_OR_EVENT;
+    };
+    let mut records = match lent_records(stored, request, fault) {
+        Ok(records) => records,
+        Err(answer) => return misrefused(stored, answer, fault),
+    };
+    match board::call(&mut records, kind, request, reply, fault) {
+        Outcome::Silence(number) => 100 + u32::from(number),
+        Outcome::Reply(length) => {
+            // One record, one form: one that did not change is written as it stood.
+            for (form, record) in stored.chunks_exact_mut(STORED_LENGTH).zip(&records) {
+                form.copy_from_slice(&stored::form(record));
+            }
+            length as u32
+        }
     }
 }
 
@@ -212,6 +274,75 @@ mod tests {
             let expected = ((answer, Report::default()), stored.clone(), false);
             assert_eq!(over(&stored), expected);
         }
+    }
+
+    /// The forms of the low record with these addresses, end to end.
+    fn forms(addresses: impl IntoIterator<Item = u8>) -> Vec<u8> {
+        let form = |address| {
+            stored::form(&Record {
+                address,
+                ..Record::low()
+            })
+        };
+        addresses.into_iter().flat_map(form).collect()
+    }
+
+    /// A write goes to the second of three alone; the bytes before and behind it stay.
+    #[test]
+    fn a_board_of_three() {
+        let before = forms([9, 1, 99]);
+        for (kind, request, answer) in [
+            (0, &b"\x0201NR 02\x03\x3C\x7F"[..], 8),
+            (1, b"*01NR 02\r\n", 7),
+        ] {
+            let (mut lent, mut reply) = (before.clone(), [9; 70]);
+            let answered = board(kind, &mut lent, request, &mut reply, Fault::None);
+            assert_eq!(answered, answer);
+            assert_eq!(reply[answer as usize..], [9; 70][answer as usize..]);
+            assert_eq!(lent[180 + 7], 2);
+            lent[180 + 7] = 1;
+            assert_eq!(lent, before);
+        }
+    }
+
+    /// The answer to a write to address 1; no byte may change.
+    fn board_refused(kind: u8, stored: &[u8], room: usize) -> u32 {
+        let (mut lent, mut reply) = (stored.to_vec(), vec![9; room]);
+        let answer = board(kind, &mut lent, b"*01NR 02\r\n", &mut reply, Fault::None);
+        assert_eq!(lent, stored);
+        assert_eq!(reply, vec![9; room]);
+        answer
+    }
+
+    /// Each refusal with what comes behind it.
+    #[test]
+    fn boards_are_refused_in_order() {
+        let twice = |count: usize| forms([1, 1]).repeat(count);
+        let spoiled = |mut stored: Vec<u8>, changes: &[(usize, u8)]| {
+            for &(place, byte) in changes {
+                stored[place] = byte;
+            }
+            stored
+        };
+        let bad = spoiled(twice(9), &[(0, 1)]);
+        assert_eq!(board_refused(2, &bad[1..], 63), 300);
+        for length in [1, 177, 179, 181, 354, 17 * 180 + 1] {
+            assert_eq!(board_refused(1, &bad[..length], 63), 201);
+        }
+        assert_eq!(board_refused(1, &[], 63), 109);
+        assert_eq!(board_refused(1, &bad[..17 * 180], 63), 109);
+        // The first that is refused, whatever the later ones are.
+        let changes = [(180, 1), (361, 1), (543, 0)];
+        for (answer, from) in [(202, 0), (203, 1), (204, 2)] {
+            let bad = spoiled(twice(2), &changes[from..]);
+            assert_eq!(board_refused(1, &bad, 63), answer);
+            let bad = spoiled(twice(2), &changes[from..=from]);
+            assert_eq!(board_refused(1, &bad, 63), answer);
+        }
+        assert_eq!(board_refused(1, &twice(2), 63), 111);
+        assert_eq!(board_refused(1, &forms(1..=16), 63), 102);
+        assert_eq!(board_refused(0, &forms(1..=16), 64), 104);
+        assert_eq!(board_refused(1, &forms(2..=17), 64), 108);
     }
 
     #[test]

@@ -29,6 +29,15 @@ mod declared {
             answered: *mut usize,
             written: *mut usize,
         ) -> u32;
+        fn khuyapesh_board(
+            kind: u8,
+            stored: *mut u8,
+            stored_length: usize,
+            request: *const u8,
+            request_length: usize,
+            reply: *mut u8,
+            reply_length: usize,
+        ) -> u32;
         fn khuyapesh_panel(event: u8, number: u16, stored: *mut u8, stored_length: usize) -> u32;
         fn khuyapesh_stored(
             stored: *const u8,
@@ -99,6 +108,21 @@ mod declared {
         (answer, report)
     }
 
+    pub fn board(kind: u8, stored: &mut [u8], request: &[u8], reply: &mut [u8]) -> u32 {
+        // SAFETY: pointers and lengths of live slices; those that are written overlap no other.
+        unsafe {
+            khuyapesh_board(
+                kind,
+                stored.as_mut_ptr(),
+                stored.len(),
+                request.as_ptr(),
+                request.len(),
+                reply.as_mut_ptr(),
+                reply.len(),
+            )
+        }
+    }
+
     pub fn panel(event: u8, number: u16, stored: &mut [u8]) -> u32 {
         // SAFETY: pointer and length of a live slice.
         unsafe { khuyapesh_panel(event, number, stored.as_mut_ptr(), stored.len()) }
@@ -139,7 +163,7 @@ mod declared {
 }
 
 #[cfg(not(feature = "self_test"))]
-pub use declared::{build, call, judge, panel, read, several, stored};
+pub use declared::{board, build, call, judge, panel, read, several, stored};
 
 #[cfg(feature = "self_test")]
 mod stand_in {
@@ -153,6 +177,10 @@ mod stand_in {
 
     pub fn several(stored: &mut [u8], bytes: &[u8], reply: &mut [u8]) -> (u32, Report) {
         interface::several(stored, bytes, reply, Fault::None)
+    }
+
+    pub fn board(kind: u8, stored: &mut [u8], request: &[u8], reply: &mut [u8]) -> u32 {
+        interface::board(kind, stored, request, reply, Fault::None)
     }
 
     pub fn panel(event: u8, number: u16, stored: &mut [u8]) -> u32 {
@@ -177,4 +205,4 @@ mod stand_in {
 }
 
 #[cfg(feature = "self_test")]
-pub use stand_in::{build, call, judge, panel, read, several, stored};
+pub use stand_in::{board, build, call, judge, panel, read, several, stored};

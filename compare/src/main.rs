@@ -4,6 +4,7 @@
 
 mod alarms;
 mod benchmark;
+mod board;
 mod command;
 mod comparison;
 mod controller;

@@ -4,7 +4,7 @@ use crate::comparison::{Comparison, Counts, Difference};
 use crate::enumeration;
 use crate::fault::Fault;
 use crate::frame::{self, Kind};
-use crate::generate::{host, recordings, records, requests, stored_forms, streams};
+use crate::generate::{boards, host, recordings, records, requests, stored_forms, streams};
 use crate::random::Random;
 use crate::record::Record;
 use crate::stored;
@@ -52,9 +52,11 @@ fn random_rounds(
         up_to(round + 1) - up_to(round)
     };
     let mut record = any_record(&mut random);
-    // Numbers and a record of their own: all else that a seed gives does not hang on the streams.
+    // Numbers of their own: all else that a seed gives does not hang on the streams or the boards.
     let mut random_of_streams = Random::new(!amounts.seed);
     let mut record_of_streams = any_record(&mut random_of_streams);
+    let mut random_of_boards = Random::new(amounts.seed ^ 1 << 63);
+    let mut board = boards::board(&mut random_of_boards);
     let mut last_progress = Instant::now();
     for round in 0..rounds {
         for _ in 0..share(amounts.calls, round) {
@@ -74,6 +76,9 @@ fn random_rounds(
         for _ in 0..share(amounts.recordings, round) {
             comparison.judge(&recordings::recording(&mut random))?;
         }
+        for _ in 0..share(amounts.calls / 10, round) {
+            board = one_board(comparison, &mut random_of_boards, board)?;
+        }
         if progress && last_progress.elapsed() >= PROGRESS_INTERVAL {
             eprintln!("round {} of {rounds}: {}", round + 1, comparison.counts);
             last_progress = Instant::now();
@@ -84,6 +89,16 @@ fn random_rounds(
 
 fn any_record(random: &mut Random) -> Vec<u8> {
     stored::form(&records::record(random)).to_vec()
+}
+
+/// A kind of link, and its number, seldom that of a kind that there is not.
+fn any_kind(random: &mut Random) -> (Kind, u8) {
+    let kind = random.pick(&[Kind::Minicomputer, Kind::Terminal]);
+    let mut kind_number = kind as u8;
+    if random.percent(1) {
+        kind_number = random.byte();
+    }
+    (kind, kind_number)
 }
 
 /// A lent buffer of random bytes, mostly of the least length or somewhat more.
@@ -133,11 +148,7 @@ fn one_call(
     if random.percent(25) {
         record = one_event(comparison, random, record)?;
     }
-    let kind = random.pick(&[Kind::Minicomputer, Kind::Terminal]);
-    let mut kind_number = kind as u8;
-    if random.percent(1) {
-        kind_number = random.byte();
-    }
+    let (kind, kind_number) = any_kind(random);
     let (_, held) = stored::read(&record, Fault::None);
     let request = requests::request(random, kind, &held, requests::command);
     let reply = out_buffer(random, 64);
@@ -182,12 +193,30 @@ fn one_stream(
     Ok(record)
 }
 
-fn host_side(comparison: &mut Comparison, random: &mut Random) -> Result<(), Difference> {
-    let kind = random.pick(&[Kind::Minicomputer, Kind::Terminal]);
-    let mut kind_number = kind as u8;
-    if random.percent(1) {
-        kind_number = random.byte();
+/// One call over a board, now and then over a spoiled copy of it; answers the board to go on with.
+fn one_board(
+    comparison: &mut Comparison,
+    random: &mut Random,
+    mut board: Vec<u8>,
+) -> Result<Vec<u8>, Difference> {
+    if random.percent(10) {
+        board = boards::board(random);
     }
+    let (kind, kind_number) = any_kind(random);
+    let held = boards::held(random, &board);
+    let request = requests::request(random, kind, &held, requests::command);
+    let reply = out_buffer(random, 64);
+    if random.percent(30) {
+        let spoiled = boards::spoiled(random, &board);
+        comparison.board(kind_number, &spoiled, &request, &reply)?;
+        return Ok(board);
+    }
+    let (_, after, _) = comparison.board(kind_number, &board, &request, &reply)?;
+    Ok(after)
+}
+
+fn host_side(comparison: &mut Comparison, random: &mut Random) -> Result<(), Difference> {
+    let (kind, kind_number) = any_kind(random);
     let out = out_buffer(random, 64);
     match random.below(3) {
         0 => comparison.build_and_read(kind_number, &host::text(random), &out),

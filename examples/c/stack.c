@@ -1,5 +1,6 @@
-/* Runs the functions on a stack that was painted before, and prints how much of it was written over. Status 1 if that is not
- * under KHUYAPESH_STACK, or if an answer is not the expected one. */
+/* Runs the functions on a stack that was painted before, and prints how much of it was written over: khuyapesh_board by itself,
+ * and all others. Status 1 if that is not under KHUYAPESH_BOARD_STACK and KHUYAPESH_STACK, or if an answer is not the expected
+ * one. */
 #define _XOPEN_SOURCE 700
 #include <stdio.h>
 #include <string.h>
@@ -9,11 +10,11 @@
 
 enum { PAINT = 0xa5 };
 
-static unsigned char stack[16 * KHUYAPESH_STACK];
+static unsigned char stack[4 * KHUYAPESH_BOARD_STACK];
 static ucontext_t caller, callee;
 static int expected = 1;
 
-/* Every function, and requests that are read, written and refused, their replies recorded and judged; then the same requests
+/* Every function but khuyapesh_board, and requests that are read, written and refused, their replies recorded and judged; then the same requests
  * end to end. */
 static void work(void)
 {
@@ -52,27 +53,54 @@ static void work(void)
     expected &= khuyapesh_stored(stored, sizeof stored, copy, sizeof copy) == KHUYAPESH_DONE;
 }
 
-static void run(void)
+/* A full board, with requests to its last record that are read, written and refused. */
+static void work_on_board(void)
+{
+    static const char *const texts[] = {"16EQ", "16RC", "16PC 032 10150", "16SB 500", "16QQ"};
+    static uint8_t board[KHUYAPESH_BOARD_RECORDS * KHUYAPESH_STORED_LENGTH];
+    static uint8_t request[KHUYAPESH_FRAME_ROOM], reply[KHUYAPESH_FRAME_ROOM];
+    size_t place, index;
+
+    for (place = 0; place < KHUYAPESH_BOARD_RECORDS; place++) {
+        khuyapesh_stored(reply, 0, board + place * KHUYAPESH_STORED_LENGTH, KHUYAPESH_STORED_LENGTH);
+        board[place * KHUYAPESH_STORED_LENGTH + 3] = (uint8_t)(place + 1);
+    }
+    for (index = 0; index < sizeof texts / sizeof *texts; index++) {
+        uint32_t sent = khuyapesh_build(0, (const uint8_t *)texts[index], strlen(texts[index]), request, sizeof request);
+
+        expected &= !khuyapesh_is_refusal(khuyapesh_board(0, board, sizeof board, request, sent, reply, sizeof reply));
+    }
+}
+
+static void run(void (*task)(void))
 {
     getcontext(&callee);
     callee.uc_stack.ss_sp = stack;
     callee.uc_stack.ss_size = sizeof stack;
     callee.uc_link = &caller;
-    makecontext(&callee, work, 0);
+    makecontext(&callee, task, 0);
     swapcontext(&caller, &callee);
+}
+
+/* How much of the stack a task takes. It is run once before, so that the linker has looked up by then what it looks up at a
+ * first call. */
+static size_t taken_by(void (*task)(void))
+{
+    size_t left = 0;
+
+    run(task);
+    memset(stack, PAINT, sizeof stack);
+    run(task);
+    while (left < sizeof stack && stack[left] == PAINT)
+        left++;
+    return sizeof stack - left;
 }
 
 int main(void)
 {
-    size_t left = 0, used;
+    size_t used = taken_by(work), used_on_board = taken_by(work_on_board);
 
-    /* once before, so that the linker has looked up by then what it looks up at a first call */
-    run();
-    memset(stack, PAINT, sizeof stack);
-    run();
-    while (left < sizeof stack && stack[left] == PAINT)
-        left++;
-    used = sizeof stack - left;
-    printf("stack: %lu of %d bytes\n", (unsigned long)used, KHUYAPESH_STACK);
-    return !expected || used >= KHUYAPESH_STACK;
+    printf("stack: %lu of %d bytes, with a board %lu of %d\n", (unsigned long)used, KHUYAPESH_STACK,
+           (unsigned long)used_on_board, KHUYAPESH_BOARD_STACK);
+    return !expected || used >= KHUYAPESH_STACK || used_on_board >= KHUYAPESH_BOARD_STACK;
 }

@@ -5,6 +5,45 @@ use crate::comparison::{Comparison, Difference};
 use crate::frame::{self, Kind};
 use crate::stored;
 
+/// How many combinations of damages there are.
+pub const DAMAGES: usize = 1 << 9;
+
+/// A batch set at the plain record, its frame with a combination of damages.
+pub fn damaged(kind: Kind, damages: usize) -> Vec<u8> {
+    let has = |damage: usize| damages & 1 << damage != 0;
+    let mut text = b"42SB 500".to_vec();
+    if has(0) {
+        text.resize(61, b'0');
+    }
+    if has(1) {
+        text[7] = 0x7F;
+    }
+    if has(2) {
+        text[1] = b'A';
+    }
+    if has(3) {
+        text[3] = b'b';
+    }
+    if has(4) {
+        text[0] = b'0';
+    }
+    let mut frame = frame::framed(kind, &text);
+    let length = frame.len();
+    if has(5) {
+        frame[0] = 0x03;
+    }
+    if has(6) {
+        frame[length - kind.trailer()] = 0x02;
+    }
+    if has(7) {
+        frame[length - 1] = 0x02;
+    }
+    if has(8) {
+        frame[length - 2] ^= 0x10;
+    }
+    frame
+}
+
 /// Every combination of damages to a frame, against reply buffers about the least length and a
 /// record that is not valid.
 pub fn damaged_frames(comparison: &mut Comparison) -> Result<(), Difference> {
@@ -13,38 +52,8 @@ pub fn damaged_frames(comparison: &mut Comparison) -> Result<(), Difference> {
     let mut broken = valid;
     broken[7] = 9;
     for kind in KINDS {
-        for damages in 0..1 << 9 {
-            let has = |damage: usize| damages & 1 << damage != 0;
-            let mut text = b"42SB 500".to_vec();
-            if has(0) {
-                text.resize(61, b'0');
-            }
-            if has(1) {
-                text[7] = 0x7F;
-            }
-            if has(2) {
-                text[1] = b'A';
-            }
-            if has(3) {
-                text[3] = b'b';
-            }
-            if has(4) {
-                text[0] = b'0';
-            }
-            let mut frame = frame::framed(kind, &text);
-            let length = frame.len();
-            if has(5) {
-                frame[0] = 0x03;
-            }
-            if has(6) {
-                frame[length - kind.trailer()] = 0x02;
-            }
-            if has(7) {
-                frame[length - 1] = 0x02;
-            }
-            if has(8) {
-                frame[length - 2] ^= 0x10;
-            }
+        for damages in 0..DAMAGES {
+            let frame = damaged(kind, damages);
             for reply in [0, 1, 63, 64, 65, 80] {
                 comparison.call(kind as u8, &valid, &frame, &buffer(reply))?;
                 comparison.call(kind as u8, &broken, &frame, &buffer(reply))?;

@@ -1,8 +1,10 @@
 //! What is enumerated and not sampled: every refusal against every phase, keypad, access and level,
 //! every combination of damages to a frame, every byte of a stored form, every parameter code, every
-//! alarm, every parameter rewritten, every pair of telling exchanges, every cut of a stream.
+//! alarm, every parameter rewritten, every pair of telling exchanges, every cut of a stream, every
+//! place on a board.
 
 mod alarms;
+mod board;
 mod calls;
 mod changed;
 mod frames;
@@ -36,7 +38,8 @@ pub fn enumerate(comparison: &mut Comparison) -> Result<(), Difference> {
     records::stored_forms(comparison)?;
     alarms::alarm_calls(comparison)?;
     alarms::alarm_events(comparison)?;
-    alarms::stored_alarms(comparison)
+    alarms::stored_alarms(comparison)?;
+    board::boards(comparison)
 }
 
 /// The bytes of a lent buffer, told apart so that a moved one is seen.

@@ -1,5 +1,6 @@
 //! Random inputs, from plausible ones to noise.
 
+pub mod boards;
 pub mod host;
 pub mod recordings;
 pub mod records;

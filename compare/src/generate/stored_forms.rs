@@ -6,7 +6,7 @@ use crate::random::Random;
 use crate::stored;
 
 /// Puts one field of a form that is long enough out of its range, or to its edge.
-fn past_an_edge(random: &mut Random, form: &mut [u8]) {
+pub fn past_an_edge(random: &mut Random, form: &mut [u8]) {
     let length = form.len();
     let mut put = |start: usize, width: usize, number: u32| {
         form[start..start + width].copy_from_slice(&number.to_be_bytes()[4 - width..]);

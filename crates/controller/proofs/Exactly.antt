@@ -43,11 +43,11 @@ pub record FirstFailing (bs : List Bool) (i : ℕ) : Type 0 where
   pub before : (j : ℕ) → j < i → getD bs j true ≡ true
 
 -- no test fails
-abbrev NoneFails : List Bool → Type 0
+abbrev pub NoneFails : List Bool → Type 0
 NoneFails bs = (j : ℕ) → getD bs j true ≡ true
 
 -- the number of the first that fails, where the first of all has number n; 0 if none fails
-abbrev failing : ℕ → List Bool → ℕ
+abbrev pub failing : ℕ → List Bool → ℕ
 failing n [] = 0
 failing n (b ∷ bs) = unless b n (failing (suc n) bs)
 
@@ -80,7 +80,7 @@ first-once bs i j f g =
     ⊎-elim (λ (l : i < j). not-both (getD bs i true) (g .before i l) (f .fails)) (λ (l : j ≤ i). l) (below-or-not i j)
 
 -- the number tells the first that fails, and 0 tells that none does
-failing-exactly : (bs : List Bool) (i : ℕ) → failing 1 bs ≡ i + 1 ↔ FirstFailing bs i
+pub failing-exactly : (bs : List Bool) (i : ℕ) → failing 1 bs ≡ i + 1 ↔ FirstFailing bs i
 failing-exactly bs i =
     ⊎-elim
     (λ (x : (j : ℕ) × FirstFailing bs j × (failing 1 bs ≡ 1 + j)).
@@ -91,7 +91,7 @@ failing-exactly bs i =
     (λ (x : NoneFails bs × (failing 1 bs ≡ 0)). (λ h. absurd (omega (arith, x .1)), λ g. not-both (getD bs i true) (x .0 i) (g .fails)))
     (first-or-none bs 1)
 
-none-exactly : (bs : List Bool) → failing 1 bs ≡ 0 ↔ NoneFails bs
+pub none-exactly : (bs : List Bool) → failing 1 bs ≡ 0 ↔ NoneFails bs
 none-exactly bs =
     ⊎-elim
     (λ (x : (j : ℕ) × FirstFailing bs j × (failing 1 bs ≡ 1 + j)).
@@ -111,7 +111,7 @@ silence-unless : (b : Bool) (x y : Outcome) → unless b x y .silence ≡ unless
 silence-unless true x y = refl
 silence-unless false x y = refl
 
-silence-failing : (k : Kind) (r : Record) (q o : List ℕ) → callOf k r q o .silence ≡ failing 1 (tests k r q o)
+pub silence-failing : (k : Kind) (r : Record) (q o : List ℕ) → callOf k r q o .silence ≡ failing 1 (tests k r q o)
 unfolding callOf
 silence-failing k r q o = simp silence-unless
 
@@ -121,6 +121,10 @@ silence-exactly k r q o i =
 
 pub heard-exactly : (k : Kind) (r : Record) (q o : List ℕ) → callOf k r q o .silence ≡ 0 ↔ ((j : ℕ) → getD (tests k r q o) j true ≡ true)
 heard-exactly k r q o = subst (λ (n : ℕ). n ≡ 0 ↔ NoneFails (tests k r q o)) (sym (silence-failing k r q o)) (none-exactly (tests k r q o))
+
+-- a valid record never meets S1
+pub never-first : (k : Kind) (r : Record) (q o : List ℕ) → valid r ≡ true → callOf k r q o .silence ≡ 1 → ⊥
+never-first k r q o v e = not-both (valid r) v (silence-exactly k r q o 0 .0 e .fails)
 
 -- ---- no accepted reply begins with "N"
 

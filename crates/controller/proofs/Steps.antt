@@ -92,6 +92,36 @@ pub ruleset replying = (reply-short, reply-made)
 
 -- ---- the silences
 module _ (k : Kind) (r : Record) (q o : List ℕ) where
+  -- a call by what the frame's reader tells: S3 to S7, or a text for the unit of an address; it tells nothing else
+  abbrev pub byReader : Answer → Outcome
+  byReader (S n) = silent n r o
+  byReader (unit d n) = unless (eqb d (r .address)) (silent 8 r o) (replied k (textIn k q) r o)
+  byReader (H n) = silent 0 r o
+  byReader (accepted n) = silent 0 r o
+
+  last : (b₇ : Bool) → unless b₇ (silent 7 r o) (byReader (unit (addressIn (textIn k q)) (length (textIn k q)))) ≡ byReader (unless b₇ (S 7) (unit (addressIn (textIn k q)) (length (textIn k q))))
+  last true = refl
+  last false = refl
+
+  chain : (b₃ b₄ b₅ b₆ : Bool)
+      → unless b₃ (silent 3 r o) (unless b₄ (silent 4 r o) (unless b₅ (silent 5 r o) (unless b₆ (silent 6 r o)
+      (unless (namesUnit (textIn k q)) (silent 7 r o) (byReader (unit (addressIn (textIn k q)) (length (textIn k q))))))))
+      ≡ byReader (addressed (unless b₃ (S 3) (unless b₄ (S 4) (unless b₅ (S 5) (unless b₆ (S 6) (accepted (length (textIn k q))))))) (textIn k q))
+  chain false b₄ b₅ b₆ = refl
+  chain true false b₅ b₆ = refl
+  chain true true false b₆ = refl
+  chain true true true false = refl
+  chain true true true true = last (namesUnit (textIn k q))
+
+  pub call-by-reader : valid r ≡ true → 64 ≤ length o → callOf k r q o ≡ byReader (addressOf k q)
+  unfolding callOf addressOf locateOf
+  call-by-reader v room =
+      simp (v, le-leb 64 (length o) room) (chain (withinLimits k (length q)) (marksRight k q) (checkRight k q) (allText (textIn k q)))
+
+  pub call-short : valid r ≡ true → length o < 64 → callOf k r q o ≡ silent 2 r o
+  unfolding callOf
+  call-short v h = simp (v, lt-leb 64 (length o) h)
+
   pub silent-record : (b : Bool) (c : Called) → b ≡ valid r → not b ≡ true → c ≡ silentAs silence.InvalidRecord r → outcomeAs (c .answer) (c .after) o ≡ callOf k r q o
   unfolding callOf
   silent-record b c e n w = ap (λ (x : Called). outcomeAs (x .answer) (x .after) o) w ∙ simp (sym e ∙ not-true b n)
@@ -101,71 +131,30 @@ module _ (k : Kind) (r : Record) (q o : List ℕ) where
     valid-so = sym v ∙ not-false b n
 
     pub silent-room : (c : Called) → length o < 64 → c ≡ silentAs silence.ShortReplyBuffer r → outcomeAs (c .answer) (c .after) o ≡ callOf k r q o
-    unfolding callOf
-    silent-room c h w = ap (λ (x : Called). outcomeAs (x .answer) (x .after) o) w ∙ simp (valid-so, lt-leb 64 (length o) h)
+    silent-room c h w = ap (λ (x : Called). outcomeAs (x .answer) (x .after) o) w ∙ sym (call-short valid-so h)
 
     module _ (room : 64 ≤ length o) (a : Addressed) (e : addressedAs a ≡ addressOf k q) where
-      -- S3 to S7 as the frame's reader names them
-      passed-on : (x : Answer) (y : Outcome) → Outcome
-      passed-on (S m) y = silent m r o
-      passed-on (H m) y = y
-      passed-on (accepted m) y = y
-      passed-on (unit d m) y = y
-
-      last : (b₇ : Bool) (d m : ℕ) (z : Outcome) → unless b₇ (silent 7 r o) z ≡ passed-on (unless b₇ (S 7) (unit d m)) z
-      unfolding passed-on
-      last true d m z = refl
-      last false d m z = refl
-
-      chain : (b₃ b₄ b₅ b₆ : Bool) (z : Outcome)
-          → unless b₃ (silent 3 r o) (unless b₄ (silent 4 r o) (unless b₅ (silent 5 r o) (unless b₆ (silent 6 r o) (unless (namesUnit (textIn k q)) (silent 7 r o) z))))
-          ≡ passed-on (addressed (unless b₃ (S 3) (unless b₄ (S 4) (unless b₅ (S 5) (unless b₆ (S 6) (accepted (length (textIn k q))))))) (textIn k q)) z
-      unfolding passed-on
-      chain false b₄ b₅ b₆ z = refl
-      chain true false b₅ b₆ z = refl
-      chain true true false b₆ z = refl
-      chain true true true false z = refl
-      chain true true true true z = last (namesUnit (textIn k q)) (addressIn (textIn k q)) (length (textIn k q)) z
-
-      -- a text that is for a unit
-      for-unit : Outcome
-      for-unit = unless (eqb (addressIn (textIn k q)) (r .address)) (silent 8 r o) (replied k (textIn k q) r o)
-
-      by-address : callOf k r q o ≡ passed-on (addressedAs a) for-unit
-      unfolding callOf addressOf locateOf for-unit
-      by-address =
-          simp (valid-so, le-leb 64 (length o) room)
-          (chain (withinLimits k (length q)) (marksRight k q) (checkRight k q) (allText (textIn k q)) for-unit
-          ∙ ap (λ (x : Answer). passed-on x for-unit) (sym e))
+      by-address : (x : Addressed) → a ≡ x → callOf k r q o ≡ byReader (addressedAs x)
+      by-address x z = call-by-reader valid-so room ∙ ap byReader (sym e ∙ ap addressedAs z)
 
       pub silent-frame : (c : Called) (s : Silence) → a ≡ addressee.Silent s → c ≡ silentAs s r → outcomeAs (c .answer) (c .after) o ≡ callOf k r q o
-      unfolding passed-on
-      silent-frame c s z w =
-          ap (λ (x : Called). outcomeAs (x .answer) (x .after) o) w
-          ∙ sym (by-address ∙ ap (λ (x : Addressed). passed-on (addressedAs x) for-unit) z)
+      silent-frame c s z w = ap (λ (x : Called). outcomeAs (x .answer) (x .after) o) w ∙ sym (by-address (addressee.Silent s) z)
 
       module _ (d m : ℕ) (z : a ≡ addressee.Unit d m) where
-        for-this : callOf k r q o ≡ for-unit
-        unfolding passed-on
-        for-this = by-address ∙ ap (λ (x : Addressed). passed-on (addressedAs x) for-unit) z
-
         pub silent-other : (c : Called) → (d ≡ r .address → ⊥) → c ≡ silentAs silence.OtherAddress r → outcomeAs (c .answer) (c .after) o ≡ callOf k r q o
-        unfolding for-unit
         silent-other c h w =
-            let i : addressIn (textIn k q) ≡ d = addressed-named k q a d m e z .number in
-            ap (λ (x : Called). outcomeAs (x .answer) (x .after) o) w ∙ sym (for-this ∙ simp (ne-eqb (addressIn (textIn k q)) (r .address) (λ f. h (sym i ∙ f))))
+            ap (λ (x : Called). outcomeAs (x .answer) (x .after) o) w ∙ sym (by-address (addressee.Unit d m) z ∙ simp (ne-eqb d (r .address) h))
 
         pub answered-call : (x : Replied) (u : Record) (b : List ℕ) → d ≡ r .address
             → outcomeAs (x .answer) (effectAs (x .effect) r) b ≡ replyOf k r (take (m + 1 - 1) (drop 1 q)) o → u ≡ effectAs (x .effect) r
             → outcomeAs (x .answer) u b ≡ callOf k r q o
-        unfolding for-unit replyOf
+        unfolding replyOf
         answered-call x u b h w v =
-            let f = addressed-named k q a d m e z in
             let j : m + 1 - 1 ≡ m = omega arith in
-            let t : take (m + 1 - 1) (drop 1 q) ≡ textIn k q = ap (λ (i : ℕ). take i (drop 1 q)) j ∙ found-text k q m (f .text) in
+            let t : take (m + 1 - 1) (drop 1 q) ≡ textIn k q = ap (λ (i : ℕ). take i (drop 1 q)) j ∙ found-text k q m (addressed-named k q a d m e z .text) in
             let made : replyOf k r (textIn k q) o ≡ replied k (textIn k q) r o = simp (le-leb 64 (length o) room) in
             ap (λ (s : Record). outcomeAs (x .answer) s b) v
-            ∙ (w ∙ (ap (λ (y : List ℕ). replyOf k r y o) t ∙ (made ∙ sym (for-this ∙ simp (eq-eqb (addressIn (textIn k q)) (r .address) (f .number ∙ h))))))
+            ∙ (w ∙ (ap (λ (y : List ℕ). replyOf k r y o) t ∙ (made ∙ sym (by-address (addressee.Unit d m) z ∙ simp (eq-eqb d (r .address) h)))))
 
 -- the text lies within the request
 pub text-within : (k : Kind) (q : List ℕ) (a : Addressed) (d m : ℕ) → addressedAs a ≡ addressOf k q → a ≡ addressee.Unit d m → Sizes q m

@@ -1,3 +1,4 @@
 pub mod Steps
 pub mod Theorems
+pub mod Boards
 pub mod Judged

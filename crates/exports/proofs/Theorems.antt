@@ -6,37 +6,34 @@ use mathlib.Core.Path.{_≡_, refl, sym, ap, subst, _∙_}
 use mathlib.Core.List.{List}
 use mathlib.Core.Logic.{_⊎_, inl, inr, ⊎-elim}
 use native.Mathlib.Omega.{arith}
-use lib.Dec.{eqb, leb}
-use lib.ListN.{length, take, drop, getD}
-use lib.Seq.{take-length}
+use lib.Dec.{leb}
+use lib.ListN.{length, take}
 use borrow.Author.Tests.{eq-eqb, ne-eqb, le-leb, leb-true}
-use Rattle.base.proofs.Lists.{over-all}
-use Rattle.base.specs.Test.{unless, between, member}
+use Rattle.base.specs.Test.{unless, between}
 use Rattle.base.specs.Lists.{over}
 use Rattle.state.specs.declared.Record.{Record}
-use Rattle.state.specs.Valid.{valid}
 use Rattle.state.specs.Event.{after}
-use Rattle.state.specs.Field.{address, get}
 use Rattle.state.proofs.Kept.{after-kept}
-use Rattle.stored.specs.Layout.{Item, versions, current, items, headerWidth, slotsFrom, putAll}
+use Rattle.stored.specs.Layout.{current}
 use Rattle.stored.specs.Form as stored
-use Rattle.stored.specs.Form.{K, done, numberOf, numbersIn, allFit, storedLength, versionOf, storedForm, writeOf, headerOf, lowRecord, takenFrom, bodyOf, afterHeader}
-use Rattle.stored.proofs.RoundTrip.{form-length, read-written}
+use Rattle.stored.specs.Form.{K, done, storedLength, storedForm, lowRecord}
+use Rattle.stored.proofs.RoundTrip.{form-read, read-refusal}
 use Rattle.frame.specs.declared.Kind.{Kind}
-use Rattle.frame.specs.Frame.{allText, namesUnit, addressIn, frameOf, textIn, withinLimits, marksRight, checkRight}
+use Rattle.frame.specs.Frame.{allText, frameOf, textIn, withinLimits, marksRight, checkRight}
 use Rattle.frame.specs.Numbers.{Answer, H, S, accepted, unit}
 use Rattle.frame.specs.Answer as frame
 use Rattle.frame.proofs.Laws.{frame-length, tail-low, framed, found-sizes, taken}
 use Rattle.frame.proofs.RoundTrip.{read-built}
-use Rattle.controller.specs.Call.{Outcome, silent, replied, callOf}
+use Rattle.controller.specs.Call.{Outcome, callOf}
 use Rattle.controller.proofs.Theorems.{Silenced, Answered, every-input, call-keeps-valid}
+use Rattle.controller.proofs.Exactly.{never-first}
 use Rattle.several.specs.Several.{Several, severalOf}
 use Rattle.several.proofs.Theorems.{several-valid, several-heard}
 use Rattle.exports.specs.Bytes.{silenceAnswer, storedAnswer, noSuch, hostLeft, isKind, kindOf, isEvent, eventOf, hasRoom, openOf, inPlace, callLeft, callBytes, SeveralLeft, severalNumbers, nothingTaken, severalLeft, severalBytes, panelBytes, storedBytes, buildBytes, readBytes}
 use Rattle.exports.proofs.Steps.{tail-high, record-valid, open-read, opened-by}
 
 -- what holds of both holds of the one that a test leaves
-either : {A : Type 0} (P : A → Type 0) (b : Bool) (x y : A) → P x → P y → P (unless b x y)
+pub either : {A : Type 0} (P : A → Type 0) (b : Bool) (x y : A) → P x → P y → P (unless b x y)
 either P true x y p q = q
 either P false x y p q = p
 
@@ -54,57 +51,12 @@ stored-answered : (n : ℕ) → Stored n → StoredAnswer (200 + n)
 stored-answered n (inl w) = inl (omega arith)
 stored-answered n (inr e) = inr (omega arith)
 
--- ---- stored bytes are refused by K1 to K4, and beside the number stands the low record
-abbrev Header : stored.Outcome → Type 0
-Header (K n) = Within 1 4 n
-Header done = Unit {0}
-
-abbrev Reading : stored.Outcome × Record → Type 0
-Reading (K n, r) = Within 1 4 n × (r ≡ lowRecord)
-Reading (done, r) = Unit {0}
-
-header-known : (s : List ℕ) → Header (headerOf s)
-unfolding headerOf
-header-known s =
-    go (member (versionOf (length s)) versions) (eqb (getD s 0 0) (versionOf (length s))) (eqb (numberOf (take 2 (drop 1 s))) (length s))
-  where
-    go : (a b c : Bool) → Header (unless a (K 1) (unless b (K 2) (unless c (K 3) done)))
-    go false b c = omega arith
-    go true false c = omega arith
-    go true true false = omega arith
-    go true true true = tt
-
-read-known : (s : List ℕ) → Reading (stored.readOf s)
-unfolding stored.readOf bodyOf takenFrom
-read-known s = go (headerOf s) (header-known s)
-  where
-    body : (xs : List Item) (ns : List ℕ) (b : Bool) → Reading (unless b (K 4, lowRecord) (done, putAll xs ns lowRecord))
-    body xs ns true = tt
-    body xs ns false = (omega arith, refl)
-
-    go : (h : stored.Outcome) → Header h → Reading (afterHeader h s)
-    go (K n) k = (k, refl)
-    go done k = body _ _ (allFit (items (versionOf (length s))) (numbersIn (slotsFrom headerWidth (items (versionOf (length s)))) s))
-
-read-refusal : (s : List ℕ) (n : ℕ) (r : Record) → stored.readOf s ≡ (K n, r) → Within 1 4 n × (r ≡ lowRecord)
-read-refusal s n r e = subst Reading e (read-known s)
-
--- a stored form reads back as its record
-pub form-read : (r : Record) → valid r ≡ true → stored.readOf (storedForm r) ≡ (done, r)
-unfolding writeOf
-form-read r v =
-    let l : storedLength current ≤ length (storedForm r) = omega (arith, form-length r) in
-    let w : writeOf r (storedForm r) ≡ (done, storedForm r) = simp (v, le-leb _ _ l) (ap (λ (x : List ℕ). (done, x)) (over-all (storedForm r) (storedForm r) (omega arith))) in
-    let t : take (storedLength current) (storedForm r) ≡ storedForm r =
-    ap (λ (n : ℕ). take n (storedForm r)) (sym (form-length r)) ∙ take-length (storedForm r) in
-    ap stored.readOf (sym t) ∙ read-written r (storedForm r) (storedForm r) w
-
 -- ---- a record that is lent to be written in its place, whatever is done with it
 module _ {A : Type 0} (s : List ℕ) (refusal : ℕ → A) (on : Record → A) where
   open-cases : (P : A → Type 0) → ((n : ℕ) → Stored n → P (refusal (200 + n))) → ((r : Record) → stored.readOf s ≡ (done, r) → P (on r))
       → P (inPlace (openOf s) refusal on)
   open-cases P refused opened =
-      opened-by s (λ (p : ℕ × Record). P (inPlace p refusal on)) (λ n r e. simp (ne-eqb (200 + n) 0 (λ z. omega arith)) (refused n (inl (read-refusal s n r e .0))))
+      opened-by s (λ (p : ℕ × Record). P (inPlace p refusal on)) (λ n r e. simp (ne-eqb (200 + n) 0 (λ z. omega arith)) (refused n (inl (let w = read-refusal s n r e in (w .low, w .high)))))
       (λ r e b f. either (λ (n : ℕ). P (inPlace (n, r) refusal on)) b 206 0 (refused 6 (inr refl)) (opened r e))
 
   -- on bytes that are stored right, by their room
@@ -117,25 +69,6 @@ module _ {A : Type 0} (s : List ℕ) (refusal : ℕ → A) (on : Record → A) w
 
     without-room : hasRoom s ≡ false → inPlace (openOf s) refusal on ≡ refusal 206
     without-room none = simp none at read-so
-
--- ---- a valid record never meets S1
-never-first : (k : Kind) (r : Record) (q o : List ℕ) → valid r ≡ true → callOf k r q o .silence ≡ 1 → ⊥
-unfolding callOf
-never-first k r q o v =
-    simp v (go (leb 64 (length o)) (withinLimits k (length q)) (marksRight k q) (checkRight k q) (allText (textIn k q)) (namesUnit (textIn k q))
-    (eqb (addressIn (textIn k q)) (get address r)))
-  where
-    go : (b c d e f g h : Bool)
-        → unless b (silent 2 r o) (unless c (silent 3 r o) (unless d (silent 4 r o) (unless e (silent 5 r o) (unless f (silent 6 r o) (unless g (silent 7 r o)
-        (unless h (silent 8 r o) (replied k (textIn k q) r o))))))) .silence ≡ 1 → ⊥
-    go false c d e f g h z = omega arith
-    go true false d e f g h z = omega arith
-    go true true false e f g h z = omega arith
-    go true true true false f g h z = omega arith
-    go true true true true false g h z = omega arith
-    go true true true true true false h z = omega arith
-    go true true true true true true false z = omega arith
-    go true true true true true true true z = omega arith
 
 -- ---- `khuyapesh_call`
 
@@ -285,7 +218,7 @@ pub low-written : (s o : List ℕ) (n : ℕ) (r : Record) → storedLength curre
 unfolding storedBytes
 low-written s o n r l e =
     simp (le-leb _ _ l) (ap (λ (p : stored.Outcome × Record). (storedAnswer (p .0), over (storedForm (p .1)) o)) e
-    ∙ ap (λ (x : Record). (200 + n, over (storedForm x) o)) (read-refusal s n r e .1))
+    ∙ ap (λ (x : Record). (200 + n, over (storedForm x) o)) (read-refusal s n r e .low-beside))
 
 -- ---- `khuyapesh_build` and `khuyapesh_read`
 

@@ -1,9 +1,9 @@
 -- include/khuyapesh.h: what each function answers and what every lent byte then is, by the definitions of documents 01 and
 -- 02.
 -- s are the stored bytes, q the request, t a text, f a frame, and o the buffer that is written.
-use Prim.Native.Nat.{ℕ, _+_}
+use Prim.Native.Nat.{ℕ, _+_, _≤_}
 use mathlib.Core.Bool.{Bool}
-use mathlib.Core.List.{List}
+use mathlib.Core.List.{List, []}
 use lib.Dec.{eqb, leb}
 use lib.ListN.{length}
 use Rattle.base.specs.Test.{pick, unless}
@@ -21,6 +21,10 @@ use Rattle.frame.specs.Answer as frame
 use Rattle.frame.specs.Numbers.{Answer, H, S, accepted, unit}
 use Rattle.controller.specs.Call.{Outcome, callOf}
 use Rattle.several.specs.Several.{Several, severalOf}
+use Rattle.storedboard.specs.declared.Answer as storedboard
+use Rattle.storedboard.specs.declared.Answer.the-variants as answer
+use Rattle.board.specs.Board.{answerLength}
+use Rattle.storedboard.specs.StoredBoard.{Left, leftAs, storedBoardOf}
 use Rattle.recording.specs.Replay.{fits, refuted}
 use Rattle.recording.specs.Statement.{Judgement, judged, refused}
 use Rattle.exports.specs.declared.Numbers.{Numbers}
@@ -126,6 +130,27 @@ severalLeft c s o =
 -- "K1 to K4, then K6"; b are the lent bytes
 unfoldable pub severalBytes : List ℕ → List ℕ → List ℕ → SeveralLeft
 severalBytes s b o = inPlace (openOf s) (λ n. nothingTaken n s o) (λ r. severalLeft (severalOf r b o) s o)
+
+-- ---- khuyapesh_board: the answer, the stored bytes and the reply buffer
+
+-- "K1 .., S9 .., the first record's K1 to K4; S11, S2 to S8"; or the reply's length
+abbrev pub boardAnswer : Left → ℕ
+boardAnswer x = unless (eqb (x .refused) 0) (storedAnswer (K (x .refused))) (pick (eqb (x .silence) 0) (x .reported) (silenceAnswer (x .silence)))
+
+unfoldable pub boardLeft : Left → ℕ × (List ℕ × List ℕ)
+boardLeft x = (boardAnswer x, (x .stored, x .buffer))
+
+-- "no such kind, then .."
+unfoldable pub boardBytes : ℕ → List ℕ → List ℕ → List ℕ → ℕ × (List ℕ × List ℕ)
+boardBytes kind s q o = unless (isKind kind) (noSuch, (s, o)) (boardLeft (storedBoardOf (kindOf kind) s q o))
+
+-- what the code's answer alone tells, and that a number has room for it
+abbrev pub answerLeft : storedboard.Answer → Left
+answerLeft a = leftAs a [] []
+
+abbrev pub Tellable : storedboard.Answer → Type 0
+Tellable (answer.Refused n) = 1 ≤ n
+Tellable (answer.Called a) = answerLength a ≤ 64
 
 -- ---- khuyapesh_panel: the answer and the stored bytes
 

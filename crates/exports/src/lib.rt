@@ -12,14 +12,15 @@ use stored::Refusal;
 use stored::STORED_LENGTH;
 ghost use mathlib.Core.Path.{_≡_};
 ghost use Prim.Native.Nat.{_≤_};
-ghost use lib.Dec.{leb};
+ghost use lib.Dec.{eqb, leb};
+ghost use Rattle.base.specs.Test.{pick};
 ghost use Rattle.stored.specs.Layout.{current};
 ghost use Rattle.stored.specs.Form.{K, refusalNumber, answerAs, storedLength};
 ghost use Rattle.frame.specs.Numbers.{silenceNumber, lengthIn, builtAs, readAs};
-ghost use Rattle.controller.specs.Call.{callOf};
+ghost use Rattle.controller.specs.Call.{answerSilence, answerLength, callOf};
 ghost use Rattle.several.specs.Several.{severalOf};
 ghost use Rattle.judging.specs.Judge.{judgementOf};
-ghost use Rattle.exports.specs.Bytes.{silenceAnswer, storedAnswer, hostAnswer, kindOf, eventOf, openAnswer, openOf, callLeft, callBytes, severalNumbers, severalAs, severalLeft, severalBytes, panelBytes, storedBytes, buildBytes, readBytes, judgeNumbers};
+ghost use Rattle.exports.specs.Bytes.{silenceAnswer, storedAnswer, hostAnswer, kindOf, eventOf, openAnswer, openOf, callLeft, callBytes, severalNumbers, severalAs, severalLeft, severalBytes, boardAnswer, answerLeft, Tellable, boardBytes, panelBytes, storedBytes, buildBytes, readBytes, judgeNumbers};
 
 // ---- the numbers that are answered
 
@@ -67,21 +68,10 @@ fn silence_answer(why: Silence) -> u32
     SILENT + silence_number(why)
 }
 
-fn refusal_number(why: Refusal) -> u32
-    ensures { λ n. ⌜ (n ≡ refusalNumber why) × (n ≤ 4) ⌝ }
-{
-    match why {
-        Refusal::Length => 1,
-        Refusal::Version => 2,
-        Refusal::LengthField => 3,
-        Refusal::Field => 4,
-    }
-}
-
 fn refusal_answer(why: Refusal) -> u32
     ensures { λ n. ⌜ n ≡ storedAnswer (K (refusalNumber why)) ⌝ }
 {
-    STORED + refusal_number(why)
+    STORED + base::wide(stored::number_of(why))
 }
 
 fn stored_answer(read: stored::Answer) -> u32
@@ -113,6 +103,29 @@ fn text_answer(read: TextRead) -> u32
         TextRead::ShortBuffer => HOST + 1,
         TextRead::Silent(why) => silence_answer(why),
         TextRead::Text(n) => n as u32,
+    }
+}
+
+fn call_answer(called: Answer) -> u32
+    requires { ⌜ answerLength called ≤ 64 ⌝ }
+    ensures { λ n. ⌜ n ≡ pick (eqb (answerSilence called) 0) (answerLength called) (silenceAnswer (answerSilence called)) ⌝ }
+{
+    match called {
+        Answer::Silent(why) => silence_answer(why),
+        Answer::Reply(n) => n as u32,
+    }
+}
+
+fn board_answer(answer: storedboard::Answer) -> u32
+    requires { ⌜ Tellable answer ⌝ }
+    ensures { λ n. ⌜ n ≡ boardAnswer (answerLeft answer) ⌝ }
+{
+    match answer {
+        storedboard::Answer::Refused(n) => STORED + base::wide(n),
+        storedboard::Answer::Called(called) => match called {
+            board::Answer::Refused(why) => SILENT + base::wide(board::number_of(why)),
+            board::Answer::Called(one) => call_answer(one),
+        },
     }
 }
 
@@ -171,7 +184,7 @@ fn call_record(
     requires { ⌜ openOf (now stored) ≡ (0, before) ⌝ }
     ensures { λ n. ⌜ (n, (now (stored .exit), now (reply .exit))) ≡ callLeft (callOf kind before (now (request .entry)) (now (reply .entry))) (now (stored .entry)) (now (reply .entry)) ⌝ }
 {
-    let called = controller::call(kind, before, request, reply);
+    let called = kept::lend_to_call(kind, before, request, reply);
     let answer = called.answer;
     let after = called.after;
     match answer {
@@ -279,6 +292,22 @@ pub extern "C" fn khuyapesh_several(
     numbers.answer
 }
 
+// One call of the board whose records the stored bytes are, end to end.
+#[no_mangle]
+pub extern "C" fn khuyapesh_board(
+    kind: u8,
+    stored: &mut [u8],
+    request: &[u8],
+    reply: &mut [u8],
+) -> u32
+    ensures { λ n. ⌜ (n, (now (stored .exit), now (reply .exit))) ≡ boardBytes kind (now (stored .entry)) (now (request .entry)) (now (reply .entry)) ⌝ }
+{
+    if LAST_KIND < kind {
+        return NO_SUCH;
+    }
+    board_answer(storedboard::call(kind_of(kind), stored, request, reply))
+}
+
 // ---- the panel
 
 // One event of the panel.
@@ -296,7 +325,7 @@ pub extern "C" fn khuyapesh_panel(event: u8, number: u16, stored: &mut [u8]) -> 
     if answer != 0 {
         return answer;
     }
-    stored::write(before.after(event_of(event, number)), stored);
+    stored::write(kept::lend_to_event(before, event_of(event, number)), stored);
     0
 }
 

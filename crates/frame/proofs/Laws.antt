@@ -314,5 +314,22 @@ pub named-addressed : (k : Kind) (f : List ℕ) (a n : ℕ) → Named k f a n �
 unfolding addressOf
 named-addressed k f a n b = simp (found-located k f n (b .text), b .code, b .number)
 
+-- S3 to S7, or the text's address and length
+pub address-cases : (P : Answer → Type 0) (k : Kind) (f : List ℕ) → ((n : ℕ) → 3 ≤ n → n ≤ 7 → P (S n)) → P (unit (addressIn (textIn k f)) (length (textIn k f))) → P (addressOf k f)
+unfolding addressOf locateOf
+address-cases P k f silent unit-so = go (withinLimits k (length f)) (marksRight k f) (checkRight k f) (allText (textIn k f))
+  where
+    last : (b : Bool) → P (unless b (S 7) (unit (addressIn (textIn k f)) (length (textIn k f))))
+    last true = unit-so
+    last false = silent 7 (omega arith) (omega arith)
+
+    go : (b₃ b₄ b₅ b₆ : Bool)
+        → P (addressed (unless b₃ (S 3) (unless b₄ (S 4) (unless b₅ (S 5) (unless b₆ (S 6) (accepted (length (textIn k f))))))) (textIn k f))
+    go false b₄ b₅ b₆ = silent 3 (omega arith) (omega arith)
+    go true false b₅ b₆ = silent 4 (omega arith) (omega arith)
+    go true true false b₆ = silent 5 (omega arith) (omega arith)
+    go true true true false = silent 6 (omega arith) (omega arith)
+    go true true true true = last (namesUnit (textIn k f))
+
 pub addressed-named : (k : Kind) (f : List ℕ) (r : Addressed) (a n : ℕ) → addressedAs r ≡ addressOf k f → r ≡ addressee.Unit a n → Named k f a n
 addressed-named k f r a n e z = named k f a n (sym e ∙ ap addressedAs z)

@@ -19,6 +19,13 @@ pub data Answer : Type 0 where
   accepted : ℕ → Answer
   unit : ℕ → ℕ → Answer
 
+-- the number of the silence, 0 if there is none
+abbrev pub silenceIn : Answer → ℕ
+silenceIn (H n) = 0
+silenceIn (S n) = n
+silenceIn (accepted n) = 0
+silenceIn (unit a n) = 0
+
 -- the length that goes with an answer; 0 for a refusal or a silence
 abbrev pub lengthIn : Answer → ℕ
 lengthIn (H n) = 0

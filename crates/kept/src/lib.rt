@@ -1,5 +1,6 @@
 // The controller over a record that the panel board keeps in place: lent for the length of a call.
 use controller::Answer;
+use controller::Called;
 use frame::Kind;
 use state::Event;
 use state::Record;
@@ -22,4 +23,23 @@ pub fn event(kept: &mut Record, event: Event)
 {
     let after = kept.after(event);
     *kept = after;
+}
+
+// Keeps a record in place for the length of a call, and lends it to that: the by-value call again.
+pub fn lend_to_call(kind: Kind, mut held: Record, request: &[u8], out: &mut [u8]) -> Called
+    ensures { λ c. ⌜ outcomeAs (c .answer) (c .after) (now (out .exit)) ≡ callOf kind held (now (request .entry)) (now (out .entry)) ⌝ }
+{
+    let answer = call(kind, &mut held, request, out);
+    Called {
+        answer: answer,
+        after: held,
+    }
+}
+
+// The same for what the panel does.
+pub fn lend_to_event(mut held: Record, happens: Event) -> Record
+    ensures { λ r. ⌜ r ≡ after happens held ⌝ }
+{
+    event(&mut held, happens);
+    held
 }

@@ -21,12 +21,13 @@ use Rattle.frame.specs.declared.Addressed.the-variants as addressed
 use Rattle.frame.specs.Frame.{allText, namesUnit, addressIn, textIn, withinLimits, marksRight, checkRight}
 use Rattle.frame.specs.Numbers.{Answer, H, S, accepted, unit, silenceNumber, addressedAs}
 use Rattle.frame.specs.Answer.{locateOf, addressOf}
-use Rattle.frame.proofs.Laws.{silence-low, Named, named}
+use Rattle.frame.proofs.Laws.{silence-low, Named, named, named-addressed}
 use Rattle.command.specs.Request.{effectAs}
 use Rattle.controller.specs.declared.Replied.{Replied}
 use Rattle.controller.specs.declared.Answer as controller
 use Rattle.controller.specs.declared.Answer.the-variants.{Silent, Reply}
 use Rattle.controller.specs.Call.{Outcome, silent, replied, replyOf, callOf, answerSilence, outcomeAs, replyIn}
+use Rattle.controller.proofs.Steps.{byReader, call-by-reader}
 use Rattle.controller.proofs.Exactly.{tests, heard-exactly, silence-exactly}
 use Rattle.controller.proofs.Buffers.{Alike, calls-with-room, buffer-left}
 use Rattle.several.specs.declared.Due.{Due}
@@ -137,10 +138,7 @@ module _ (r : Record) (q : List ℕ) (v : valid r ≡ true) where
   -- S8, or a reply
   unit-called : (a n : ℕ) → Named Minicomputer q a n → (o : List ℕ) → 64 ≤ length o
       → callOf Minicomputer r q o ≡ unless (eqb a (r .address)) (silent 8 r o) (replied Minicomputer (textIn Minicomputer q) r o)
-  unfolding callOf
-  unit-called a n f o h =
-      let g = f .text in
-      simp (v, le-leb 64 (length o) h, g .limits, g .marks, g .sum, g .text, f .code, f .number)
+  unit-called a n f o h = call-by-reader Minicomputer r q o v h ∙ ap (byReader Minicomputer r q o) (named-addressed Minicomputer q a n f)
 
   this-called : (n : ℕ) → Named Minicomputer q (r .address) n → (o : List ℕ) → 64 ≤ length o
       → callOf Minicomputer r q o ≡ replied Minicomputer (textIn Minicomputer q) r o

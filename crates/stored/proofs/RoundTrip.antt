@@ -2,7 +2,7 @@
 -- with no alarm. Assumes nothing.
 use Prim.Native.Nat.{ℕ, zero, suc, _+_, _^_, _≤_, _<_}
 use mathlib.Core.Bool.{Bool, true, false, _&&_}
-use mathlib.Core.Path.{_≡_, refl, sym, ap, _∙_}
+use mathlib.Core.Path.{_≡_, refl, sym, ap, subst, _∙_}
 use mathlib.Core.List.{List, [], _∷_, _++_, map, append-assoc}
 use mathlib.Core.Logic.{⊎-elim}
 use native.Mathlib.Omega.{arith}
@@ -296,6 +296,45 @@ pub one-form : (bs cs : List ℕ) (r : Record) → ((i : ℕ) → i < length bs 
 one-form bs cs r h g l e f =
     sym (whole-form bs r (read-tells bs r e) (all-bytes bs h)) ∙
     (ap (λ (n : ℕ). formOf (versionOf n) r) l ∙ whole-form cs r (read-tells cs r f) (all-bytes cs g))
+
+-- a stored form reads back as its record
+pub form-read : (r : Record) → valid r ≡ true → readOf (storedForm r) ≡ (done, r)
+form-read r v = whole-read (storedForm r) r (form-whole r v)
+
+-- K1 to K4, and beside the number stands the low record
+pub record Refused (n : ℕ) (r : Record) : Type 0 where
+  pub low : 1 ≤ n
+  pub high : n ≤ 4
+  pub low-beside : r ≡ lowRecord
+
+abbrev Told : Outcome × Record → Type 0
+Told (K n, r) = Refused n r
+Told (done, r) = Unit {0}
+
+header-told : (bs : List ℕ) → Told (headerOf bs, lowRecord)
+unfolding headerOf
+header-told bs = go (member (versionOf (length bs)) versions) (eqb (getD bs 0 0) (versionOf (length bs))) (eqb (numberOf (take 2 (drop 1 bs))) (length bs))
+  where
+    go : (a b c : Bool) → Told (unless a (K 1) (unless b (K 2) (unless c (K 3) done)), lowRecord)
+    go false b c = record { low = omega arith; high = omega arith; low-beside = refl }
+    go true false c = record { low = omega arith; high = omega arith; low-beside = refl }
+    go true true false = record { low = omega arith; high = omega arith; low-beside = refl }
+    go true true true = tt
+
+read-told : (bs : List ℕ) → Told (readOf bs)
+unfolding readOf bodyOf takenFrom
+read-told bs = go (headerOf bs) (header-told bs)
+  where
+    body : (xs : List Item) (ns : List ℕ) (b : Bool) → Told (unless b (K 4, lowRecord) (done, putAll xs ns lowRecord))
+    body xs ns true = tt
+    body xs ns false = record { low = omega arith; high = omega arith; low-beside = refl }
+
+    go : (h : Outcome) → Told (h, lowRecord) → Told (afterHeader h bs)
+    go (K n) k = k
+    go done k = body _ _ (allFit (items (versionOf (length bs))) (numbersIn (slotsFrom headerWidth (items (versionOf (length bs)))) bs))
+
+pub read-refusal : (bs : List ℕ) (n : ℕ) (r : Record) → readOf bs ≡ (K n, r) → Refused n r
+read-refusal bs n r e = subst Told e (read-told bs)
 
 -- every record that reading gives is valid
 pub read-valid : (bs : List ℕ) → valid (readOf bs .1) ≡ true

@@ -103,6 +103,18 @@ pub enum Refusal {
     Field,
 }
 
+// The n of Kn.
+pub fn number_of(refusal: Refusal) -> u8
+    ensures { λ n. ⌜ (n ≡ refusalNumber refusal) × (n ≤ 4) ⌝ }
+{
+    match refusal {
+        Refusal::Length => 1,
+        Refusal::Version => 2,
+        Refusal::LengthField => 3,
+        Refusal::Field => 4,
+    }
+}
+
 // What the header's reader answers.
 pub enum Header {
     Good,

@@ -1,0 +1,7 @@
+pub mod Laws
+pub mod Values
+pub mod Search
+pub mod Requests
+pub mod Theorems
+pub mod Independent
+pub mod Exactly

@@ -1,0 +1,5 @@
+pub mod Arrays
+pub mod Reading
+pub mod Writing
+pub mod Calling
+pub mod Theorems

@@ -1,0 +1,2 @@
+pub mod StoredBoard
+pub mod Steps
