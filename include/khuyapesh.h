@@ -24,11 +24,13 @@
 #define KHUYAPESH_BOARD_STACK 12288
 
 /* Bytes of a stored record as it is written, which is version 2; of the longest frame, and the least room for a reply, a
- * built frame or a text that is read; of the longest recording. The most records on one board. Stored bytes of version 1 have 177 and are only read: they
+ * built frame or a text that is read; of the longest recording. Stored bytes of version 1 have 177 and are only read: they
  * hold no alarms, and the record that is read from them has none on. */
 #define KHUYAPESH_STORED_LENGTH 180
 #define KHUYAPESH_FRAME_ROOM 64
 #define KHUYAPESH_RECORDING_LENGTH 65535
+
+/* The most records on one board. */
 #define KHUYAPESH_BOARD_RECORDS 16
 
 /* The kind of a link. */

@@ -1,6 +1,6 @@
-/* Runs the functions on a stack that was painted before, and prints how much of it was written over: khuyapesh_board by itself,
- * and all others. Status 1 if that is not under KHUYAPESH_BOARD_STACK and KHUYAPESH_STACK, or if an answer is not the expected
- * one. */
+/* Runs the functions on a stack that was painted before, and prints how much of it was written over: all but khuyapesh_board,
+ * and that by itself. Status 1 if it is not under KHUYAPESH_STACK and KHUYAPESH_BOARD_STACK, or if an answer is not the
+ * expected one. */
 #define _XOPEN_SOURCE 700
 #include <stdio.h>
 #include <string.h>
@@ -14,8 +14,8 @@ static unsigned char stack[4 * KHUYAPESH_BOARD_STACK];
 static ucontext_t caller, callee;
 static int expected = 1;
 
-/* Every function but khuyapesh_board, and requests that are read, written and refused, their replies recorded and judged; then the same requests
- * end to end. */
+/* Every function but khuyapesh_board, and requests that are read, written and refused, their replies recorded and judged;
+ * then the same requests end to end. */
 static void work(void)
 {
     static const char *const texts[] = {"01EQ", "01RS", "01RC", "01PC 032 10150", "01XC 011 0", "01SB 500", "01SA", "01QQ",

@@ -2,14 +2,14 @@
 -- d stands for a record past a list's end. Assumes nothing.
 use Prim.Native.Nat.{ℕ, zero, suc, _≤_, _<_}
 use mathlib.Core.Bool.{Bool, true, false, not, _||_, true≢false}
-use mathlib.Core.Path.{_≡_, refl, sym, ap, _∙_}
+use mathlib.Core.Path.{_≡_, refl, sym, ap, subst, _∙_}
 use mathlib.Core.List.{List, [], _∷_}
 use mathlib.Core.Logic.{_⊎_, inl, inr, ⊎-elim}
 use native.Mathlib.Nat.{le-of-suc-le-suc, not-suc-le-zero}
 use native.Mathlib.Omega.{arith}
 use lib.Dec.{eqb}
 use lib.ListN.{length, getD, set, length-set}
-use lib.Seq.{set-getD, getD-set-other}
+use lib.Seq.{set-getD, getD-set-same, getD-set-other}
 use borrow.Author.Tests.{eqb-true, eq-eqb, ne-eqb, not-true}
 use Rattle.base.specs.Test.{between, member}
 use Rattle.base.proofs.Tests.{by-test, and-yes, and-left, and-right}
@@ -200,3 +200,31 @@ module _ (k : Kind) (q o : List ℕ) (d : Record) where
         all-valid = all-stay-valid ys (a .all-valid);
         all-distinct = ap allDistinct (addresses-stay ys) ∙ a .all-distinct;
       }
+
+-- ---- demand 2 "speaks of the addressed record": the next call to it is document 01's call on what the last one left, so that a read
+-- directly after shows the written value as it does without a board
+module _ (k k′ : Kind) (q o q′ o′ : List ℕ) (d : Record) (ys : List Record) (a : Accepted ys) (i : ℕ) (h : i < length ys) (e : getD ys i d .address ≡ asked k q) where
+  abbrev after : List Record
+  after = boardOf k ys q o .records
+
+  pub record-after : getD after i d ≡ callOf k (getD ys i d) q o .after
+  record-after = ap (λ (x : Outcome). getD (x .records) i d) (to-its-record k q o d ys a i h e) ∙ getD-set-same ys i (callOf k (getD ys i d) q o .after) d h
+
+  abbrev second : one.Outcome
+  second = callOf k′ (callOf k (getD ys i d) q o .after) q′ o′
+
+  pub next-call : getD ys i d .address ≡ asked k′ q′
+      → boardOf k′ after q′ o′ ≡ record { silence = second .silence; reported = second .reported; records = set after i (second .after); buffer = second .buffer }
+  next-call f =
+      let inside : i < length after = subst (λ (n : ℕ). i < n) (sym (as-many k q o d ys)) h in
+      let its : getD after i d .address ≡ asked k′ q′ = ap (λ (r : Record). r .address) record-after ∙ (address-kept k (getD ys i d) q o ∙ f) in
+      to-its-record k′ q′ o′ d after (stays-accepted k q o d ys a) i inside its
+      ∙ ap
+      (λ (r : Record).
+      record {
+        silence = callOf k′ r q′ o′ .silence;
+        reported = callOf k′ r q′ o′ .reported;
+        records = set after i (callOf k′ r q′ o′ .after);
+        buffer = callOf k′ r q′ o′ .buffer;
+      })
+      record-after
