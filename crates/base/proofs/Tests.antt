@@ -2,16 +2,16 @@
 use Prim.Native.Nat.{ℕ, zero, suc, _+_, _≤_, _<_}
 use mathlib.Core.Bool.{Bool, true, false, not, _&&_, _||_, false≢true}
 use mathlib.Core.Path.{_≡_, refl, sym, ap, _∙_}
-use native.Mathlib.Nat.{eq-or-lt-of-le}
+use native.Mathlib.Nat.{eq-or-lt-of-le, le-of-suc-le-suc, not-suc-le-zero}
 use native.Mathlib.Omega.{arith}
 use mathlib.Core.Logic.{_⊎_, inl, inr, ⊎-elim}
-use mathlib.Core.List.{List}
+use mathlib.Core.List.{List, [], _∷_}
 use native.Mathlib.Numerals.{add-one}
-use lib.Dec.{leb, ltb}
+use lib.Dec.{eqb, leb, ltb}
 use lib.ListN.{length, drop, getD, drop-of-length-le}
 use lib.Seq.{drop-cons}
 use borrow.Author.Tests.{le-leb, lt-leb, leb-true, ltb-true, ltb-false, eq-eqb, ne-eqb, not-true}
-use Rattle.base.specs.Test.{between, allBetween, member}
+use Rattle.base.specs.Test.{between, allBetween, allDistinct, member}
 
 -- by a test that holds or not
 pub by-test : {A : Type 0} (b : Bool) → (b ≡ true → A) → (b ≡ false → A) → A
@@ -30,6 +30,11 @@ pub and-no : (a b : Bool) → (a ≡ true → b ≡ true → ⊥) → (a && b) �
 and-no true true h = absurd (h refl refl)
 and-no true false h = refl
 and-no false b h = refl
+
+pub and-exchanged : (a b c : Bool) → (a && (b && c)) ≡ (b && (a && c))
+and-exchanged true b c = refl
+and-exchanged false true c = refl
+and-exchanged false false c = refl
 
 -- two tests that say the same are equal
 abbrev pub same : Bool → Bool → Bool
@@ -94,6 +99,29 @@ member-found n s i h e = ap (member n) (drop-cons s i 0 h) ∙ simp (eq-eqb n (g
 
 pub member-turn : (n : ℕ) (s : List ℕ) (i : ℕ) → i < length s → (n ≡ getD s i 0 → ⊥) → member n (drop i s) ≡ member n (drop (i + 1) s)
 member-turn n s i h e = ap (member n) (drop-cons s i 0 h) ∙ simp (ne-eqb n (getD s i 0) e, add-one)
+
+-- ---- a number at a place is one of the list, and in a list in which none stands twice the number tells the place; d is past the end
+pub member-at : (d x : ℕ) (xs : List ℕ) (i : ℕ) → i < length xs → getD xs i d ≡ x → member x xs ≡ true
+member-at d x [] i h e = absurd (not-suc-le-zero h)
+member-at d x (y ∷ xs) zero h e = ap (λ (b : Bool). b || member x xs) (eq-eqb x y (sym e))
+member-at d x (y ∷ xs) (suc i) h e = ap (λ (b : Bool). eqb x y || b) (member-at d x xs i (le-of-suc-le-suc h) e) ∙ or-true (eqb x y)
+  where
+    or-true : (b : Bool) → (b || true) ≡ true
+    or-true true = refl
+    or-true false = refl
+
+pub not-again : (d x : ℕ) (xs : List ℕ) → allDistinct (x ∷ xs) ≡ true → (j : ℕ) → j < length xs → getD xs j d ≡ x → ⊥
+unfolding allDistinct
+not-again d x xs u j l e = false≢true (sym (not-true _ (and-left (not (member x xs)) (allDistinct xs) u)) ∙ member-at d x xs j l e)
+
+pub distinct-place : (d : ℕ) (xs : List ℕ) → allDistinct xs ≡ true → (i j : ℕ) → i < length xs → j < length xs → getD xs i d ≡ getD xs j d → i ≡ j
+unfolding allDistinct
+distinct-place d [] u i j h l e = absurd (not-suc-le-zero h)
+distinct-place d (x ∷ xs) u zero zero h l e = refl
+distinct-place d (x ∷ xs) u zero (suc j) h l e = absurd (not-again d x xs u j (le-of-suc-le-suc l) (sym e))
+distinct-place d (x ∷ xs) u (suc i) zero h l e = absurd (not-again d x xs u i (le-of-suc-le-suc h) e)
+distinct-place d (x ∷ xs) u (suc i) (suc j) h l e =
+    ap suc (distinct-place d xs (and-right (not (member x xs)) (allDistinct xs) u) i j (le-of-suc-le-suc h) (le-of-suc-le-suc l) e)
 
 -- ---- each of several: the rest of the list from place i on
 module _ (low high : ℕ) (s : List ℕ) (i : ℕ) (r : Bool) where

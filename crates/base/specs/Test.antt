@@ -1,6 +1,6 @@
 -- Tests on numbers, and a choice by a test.
 use Prim.Native.Nat.{ℕ}
-use mathlib.Core.Bool.{Bool, true, false, _&&_, _||_}
+use mathlib.Core.Bool.{Bool, true, false, not, _&&_, _||_}
 use mathlib.Core.List.{List, [], _∷_}
 use lib.Dec.{leb, eqb}
 
@@ -22,6 +22,11 @@ between low high x = leb low x && leb x high
 abbrev pub member : ℕ → List ℕ → Bool
 member n [] = false
 member n (m ∷ ms) = eqb n m || member n ms
+
+-- no number stands twice
+unfoldable pub allDistinct : List ℕ → Bool
+allDistinct [] = true
+allDistinct (x ∷ xs) = not (member x xs) && allDistinct xs
 
 -- each of several numbers is one of low to high
 unfoldable pub allBetween : ℕ → ℕ → List ℕ → Bool

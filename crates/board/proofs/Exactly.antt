@@ -1,7 +1,7 @@
 -- When the board is silent and with which silence, as "if and only if", for any records, kind of link, request bytes and reply buffer:
 -- S9, S10, S11, then S2 to S8, where S8 is that no record has the address. Assumes nothing.
 use Prim.Native.Nat.{ℕ, suc, _+_, _≤_, _<_}
-use mathlib.Core.Bool.{Bool, true, false, not, _||_}
+use mathlib.Core.Bool.{Bool, true, false}
 use mathlib.Core.Path.{_≡_, refl, sym, ap, _∙_}
 use mathlib.Core.List.{List, [], _∷_}
 use mathlib.Core.Logic.{_↔_}
@@ -9,16 +9,16 @@ use native.Mathlib.Omega.{arith}
 use lib.Dec.{eqb, leb}
 use lib.ListN.{length, getD}
 use borrow.Author.Tests.{eqb-true, eq-eqb}
-use Rattle.base.specs.Test.{unless, between, member}
-use Rattle.base.proofs.Tests.{by-test, and-left, and-right, allBelow, holds-below}
+use Rattle.base.specs.Test.{unless, between, allDistinct, member}
+use Rattle.base.proofs.Tests.{by-test, and-left, and-right, distinct-place}
 use Rattle.state.specs.declared.Record.{Record}
 use Rattle.state.specs.Valid.{valid}
 use Rattle.frame.specs.declared.Kind.{Kind}
-use Rattle.frame.specs.Frame.{allText, namesUnit, addressIn, textIn, withinLimits, marksRight, checkRight}
+use Rattle.frame.specs.Frame.{allText, namesUnit, textIn, withinLimits, marksRight, checkRight}
 use Rattle.frame.specs.Answer.{locateOf, addressOf}
 use Rattle.controller.specs.Call.{callOf}
 use Rattle.controller.proofs.Exactly.{FirstFailing, NoneFails, failing, failing-exactly, none-exactly, silence-failing}
-use Rattle.board.specs.Board.{allValid, allDistinct, addresses, dispatched, boardOf}
+use Rattle.board.specs.Board.{allValid, addresses, asked, dispatched, boardOf}
 
 -- "S9 empty list or over 16, S10 a record not valid, S11 an address twice; then S2 to S8": the numbers in this order, behind a 0 for a
 -- reply
@@ -29,7 +29,7 @@ inOrder = 0 ∷ 9 ∷ 10 ∷ 11 ∷ 2 ∷ 3 ∷ 4 ∷ 5 ∷ 6 ∷ 7 ∷ 8 ∷ []
 abbrev pub boardTests : Kind → List Record → List ℕ → List ℕ → List Bool
 boardTests k ys q o =
     between 1 16 (length ys) ∷ allValid ys ∷ allDistinct (addresses ys) ∷ leb 64 (length o) ∷ withinLimits k (length q) ∷ marksRight k q ∷ checkRight k q
-    ∷ allText (textIn k q) ∷ namesUnit (textIn k q) ∷ member (addressIn (textIn k q)) (addresses ys) ∷ []
+    ∷ allText (textIn k q) ∷ namesUnit (textIn k q) ∷ member (asked k q) (addresses ys) ∷ []
 
 -- ---- the number of the silence is that of the first test that fails
 module _ (k : Kind) (q o : List ℕ) where
@@ -50,9 +50,9 @@ module _ (k : Kind) (q o : List ℕ) where
       (λ bytes. by-test (namesUnit (textIn k q))
       (λ names.
       simp (few, v, u, room, limits, marks, sum, bytes, names)
-      (called-number (addressIn (textIn k q))
-      (λ r w e. silence-failing k r q o ∙ simp (w, room, limits, marks, sum, bytes, names, eq-eqb (addressIn (textIn k q)) (r .address) e)) ys v
-      ∙ last (member (addressIn (textIn k q)) (addresses ys))))
+      (called-number (asked k q)
+      (λ r w e. silence-failing k r q o ∙ simp (w, room, limits, marks, sum, bytes, names, eq-eqb (asked k q) (r .address) e)) ys v
+      ∙ last (member (asked k q) (addresses ys))))
       (λ names. simp (few, v, u, room, limits, marks, sum, bytes, names))) (λ bytes. simp (few, v, u, room, limits, marks, sum, bytes)))
       (λ sum. simp (few, v, u, room, limits, marks, sum))) (λ marks. simp (few, v, u, room, limits, marks))) (λ limits. simp (few, v, u, room, limits)))
       (λ room. simp (few, v, u, room))) (λ u. simp (few, v, u))) (λ v. simp (few, v))) (λ few. simp few)
@@ -63,10 +63,8 @@ module _ (k : Kind) (q o : List ℕ) where
 
 -- ---- two places have two numbers
 one-place : (i j : ℕ) → i < 11 → j < 11 → getD inOrder i 0 ≡ getD inOrder j 0 → i ≡ j
-one-place i j l m e =
-    let same : ℕ → ℕ → Bool = λ a b. not (eqb (getD inOrder a 0) (getD inOrder b 0)) || eqb a b in
-    let h : same i j ≡ true = holds-below (same i) 11 (holds-below (λ (a : ℕ). allBelow (same a) 11) 11 refl i l) j m in
-    eqb-true i j (simp (eq-eqb _ _ e) at h)
+unfolding allDistinct
+one-place i j = distinct-place 0 inOrder refl i j
 
 failing-below : (bs : List Bool) (n : ℕ) → 1 ≤ n → failing n bs < n + length bs
 failing-below [] n l = omega arith

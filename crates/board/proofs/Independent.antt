@@ -1,23 +1,23 @@
 -- No record's reply depends on another's contents but its address and validity, nor on the order of the list. Assumes nothing.
 use Prim.Native.Nat.{ℕ, zero, suc}
-use mathlib.Core.Bool.{Bool, true, false, not, _&&_, _||_, true≢false}
+use mathlib.Core.Bool.{Bool, true, false, not, _&&_, _||_}
 use mathlib.Core.Path.{_≡_, refl, sym, ap, subst, _∙_}
 use mathlib.Core.List.{List, [], _∷_, map}
 use native.Mathlib.Omega.{arith}
 use lib.Dec.{eqb, leb}
-use lib.ListN.{length, getD, drop}
-use borrow.Author.Tests.{eqb-true, eqb-false, eq-eqb, ne-eqb, not-true}
-use Rattle.base.specs.Test.{pick, unless, between, member}
-use Rattle.base.proofs.Tests.{by-test, and-left, and-right}
+use lib.ListN.{length, getD, drop, length-map}
+use borrow.Author.Tests.{eqb-true, eqb-false, eq-eqb, ne-eqb}
+use Rattle.base.specs.Test.{pick, unless, between, allDistinct, member}
+use Rattle.base.proofs.Tests.{by-test, and-exchanged, and-right, not-again}
 use Rattle.state.specs.declared.Record.{Record}
+use Rattle.state.specs.Field.{address, get}
 use Rattle.state.specs.Valid.{valid}
 use Rattle.frame.specs.declared.Kind.{Kind}
 use Rattle.frame.specs.Numbers.{silenceIn}
 use Rattle.frame.specs.Answer.{addressOf}
 use Rattle.controller.specs.Call as one
 use Rattle.controller.specs.Call.{callOf}
-use Rattle.board.specs.Board.{Outcome, silent, allValid, allDistinct, addresses, first, behind, dispatched, boardOf}
-use Rattle.board.proofs.Requests.{asked}
+use Rattle.board.specs.Board.{Outcome, silent, allValid, addresses, first, behind, asked, dispatched, boardOf}
 
 -- ---- "neither the reply nor the addressed record depends on another's contents but its address and validity"
 module _ (k : Kind) (q o : List ℕ) (d : Record) where
@@ -34,12 +34,8 @@ module _ (k : Kind) (q o : List ℕ) (d : Record) where
     pub same-buffer : x .buffer ≡ y .buffer
     pub same-record : (j : ℕ) → getD xs j d .address ≡ asked k q → getD (x .records) j d ≡ getD (y .records) j d
 
-  mapped-length : {A : Type 0} (f : Record → A) (xs : List Record) → length (map f xs) ≡ length xs
-  mapped-length f [] = refl
-  mapped-length f (x ∷ xs) = ap suc (mapped-length f xs)
-
   same-count : (xs ys : List Record) → addresses xs ≡ addresses ys → length xs ≡ length ys
-  same-count xs ys e = sym (mapped-length (λ (r : Record). r .address) xs) ∙ (ap length e ∙ mapped-length (λ (r : Record). r .address) ys)
+  same-count xs ys e = sym (length-map xs (get address)) ∙ (ap length e ∙ length-map ys (get address))
 
   all-of : List Bool → Bool
   all-of [] = true
@@ -149,11 +145,6 @@ exchanged-length zero (x ∷ []) = refl
 exchanged-length zero (x ∷ (y ∷ xs)) = refl
 exchanged-length (suc i) (x ∷ xs) = ap suc (exchanged-length i xs)
 
-and-exchanged : (a b c : Bool) → (a && (b && c)) ≡ (b && (a && c))
-and-exchanged true b c = refl
-and-exchanged false true c = refl
-and-exchanged false false c = refl
-
 or-exchanged : (a b c : Bool) → (a || (b || c)) ≡ (b || (a || c))
 or-exchanged true true c = refl
 or-exchanged true false c = refl
@@ -214,8 +205,7 @@ module _ (k : Kind) (q o : List ℕ) where
           → pick c (first (callOf k s q o) (r ∷ rs)) (behind s (pick b (first (callOf k r q o) rs) (behind r (dispatched a k rs q o))))
           ≡ exchangedIn 0 (pick b (first (callOf k r q o) (s ∷ rs)) (behind r (pick c (first (callOf k s q o) rs) (behind s (dispatched a k rs q o)))))
       go true true e f =
-          absurd (true≢false (sym (ap (λ (b : Bool). b || member (r .address) (addresses rs)) (eq-eqb (r .address) (s .address) (sym (eqb-true a (r .address) e) ∙ eqb-true a (s .address) f)))
-          ∙ not-true _ (and-left (not (member (r .address) (addresses (s ∷ rs)))) (allDistinct (addresses (s ∷ rs))) u)))
+          absurd (not-again 0 (r .address) (addresses (s ∷ rs)) u 0 (omega arith) (sym (eqb-true a (s .address) f) ∙ eqb-true a (r .address) e))
       go true false e f = refl
       go false true e f = refl
       go false false e f = refl

@@ -11,7 +11,7 @@ use lib.Seq.{drop-cons, take-all, length-take-le}
 use borrow.Author.Tests.{le-leb, lt-leb, lt-ltb, le-ltb, eq-eqb, ne-eqb, not-true, not-false}
 use Rattle.state.specs.declared.Record.{Record}
 use Rattle.state.specs.Valid.{valid}
-use Rattle.base.specs.Test.{pick, member}
+use Rattle.base.specs.Test.{pick, allDistinct, member}
 use Rattle.base.proofs.Tests.{between-yes, between-no}
 use Rattle.frame.specs.declared.Kind.{Kind}
 use Rattle.frame.specs.declared.Silence.{Silence}
@@ -28,17 +28,19 @@ use Rattle.board.specs.declared.Answer.the-variants as answer
 use Rattle.board.specs.declared.Refusal.{Refusal}
 use Rattle.board.specs.declared.Refusal.the-variants as refusal
 use Rattle.board.specs.declared.Seen.{Seen}
-use Rattle.board.specs.Board.{allDistinct, refusalNumber, answerSilence}
+use Rattle.board.specs.Board.{refusalNumber, answerSilence}
 use Rattle.board.specs.Steps.{unseen, withOf, placeIn, silentAt, wayTo, foundOf}
 
 -- ---- whether there is a reply
+pub refusal-low : (w : Refusal) → 9 ≤ refusalNumber w
+refusal-low refusal.ListLength = omega arith
+refusal-low refusal.InvalidRecord = omega arith
+refusal-low refusal.AddressTwice = omega arith
+
 pub refused-silent : (x : Answer) (w : Refusal) → x ≡ answer.Refused w → true ≡ not (eqb (answerSilence x) 0)
-refused-silent x w e = sym (ap (λ (y : Answer). not (eqb (answerSilence y) 0)) e ∙ go w)
-  where
-    go : (w : Refusal) → not (eqb (refusalNumber w) 0) ≡ true
-    go refusal.ListLength = refl
-    go refusal.InvalidRecord = refl
-    go refusal.AddressTwice = refl
+refused-silent x w e =
+    let l : 9 ≤ refusalNumber w = refusal-low w in
+    sym (ap (λ (y : Answer). not (eqb (answerSilence y) 0)) e ∙ simp (ne-eqb (refusalNumber w) 0 (λ u. omega arith)))
 
 module _ (x : Answer) (c : one.Answer) (e : x ≡ answer.Called c) where
   pub frame-silent : (w : Silence) → c ≡ called.Silent w → true ≡ not (eqb (answerSilence x) 0)

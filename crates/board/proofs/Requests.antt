@@ -9,23 +9,19 @@ use native.Mathlib.Omega.{arith}
 use lib.Dec.{eqb, leb}
 use lib.ListN.{length}
 use borrow.Author.Tests.{leb-true, leb-false, ne-eqb}
-use Rattle.base.specs.Test.{unless, between}
+use Rattle.base.specs.Test.{unless, between, allDistinct}
 use Rattle.base.proofs.Tests.{by-test}
 use Rattle.state.specs.declared.Record.{Record}
 use Rattle.state.specs.Valid.{valid}
 use Rattle.frame.specs.declared.Kind.{Kind}
-use Rattle.frame.specs.Frame.{addressIn, textIn}
+use Rattle.frame.specs.Frame.{textIn}
 use Rattle.frame.specs.Numbers.{Answer, silenceIn}
 use Rattle.frame.specs.Answer.{addressOf}
 use Rattle.frame.proofs.Laws.{address-cases}
 use Rattle.controller.specs.Call as one
 use Rattle.controller.specs.Call.{callOf}
 use Rattle.controller.proofs.Steps.{byReader, call-by-reader, call-short}
-use Rattle.board.specs.Board.{Outcome, silent, allValid, allDistinct, addresses, dispatched, boardOf}
-
--- the address that a request names
-abbrev pub asked : Kind → List ℕ → ℕ
-asked k q = addressIn (textIn k q)
+use Rattle.board.specs.Board.{Outcome, silent, allValid, addresses, asked, dispatched, boardOf}
 
 -- none of S9 to S11
 pub record Accepted (ys : List Record) : Type 0 where

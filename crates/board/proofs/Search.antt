@@ -12,10 +12,9 @@ use lib.Seq.{take-suc, take-suc-set, take-all}
 use borrow.Author.Tests.{lt-ltb, le-ltb, ne-eqb}
 use Rattle.state.specs.declared.Record.{Record}
 use Rattle.state.specs.Valid.{valid}
-use Rattle.base.specs.Test.{pick, unless, between}
-use Rattle.base.proofs.Tests.{by-test, between-high}
+use Rattle.base.specs.Test.{pick, unless, between, allDistinct}
+use Rattle.base.proofs.Tests.{by-test, and-exchanged, between-high}
 use Rattle.frame.specs.declared.Kind.{Kind}
-use Rattle.frame.specs.Frame.{addressIn, textIn}
 use Rattle.frame.specs.Numbers as numbers
 use Rattle.frame.specs.Numbers.{silenceIn}
 use Rattle.frame.specs.Answer.{addressOf}
@@ -25,19 +24,14 @@ use Rattle.controller.specs.Call.{callOf}
 use Rattle.board.specs.declared.Seen.{Seen}
 use Rattle.board.specs.declared.Found.{Found}
 use Rattle.board.specs.declared.Served.{Served}
-use Rattle.board.specs.Board.{Outcome, silent, allValid, allDistinct, addresses, first, behind, dispatched, boardOf, outcomeAs}
+use Rattle.board.specs.Board.{Outcome, silent, allValid, addresses, first, behind, asked, dispatched, boardOf, outcomeAs}
 use Rattle.board.specs.Steps.{Way, unseen, seenWith, withOf, placeIn, silentAt, wayAs, wayTo, foundOf, oneAs}
 
 -- ---- one record more at the end
-and-swap : (a b c : Bool) → (a && (b && c)) ≡ (b && (a && c))
-and-swap true b c = refl
-and-swap false true c = refl
-and-swap false false c = refl
-
 valid-more : (rs : List Record) (r : Record) → allValid (rs ++ (r ∷ [])) ≡ (valid r && allValid rs)
 unfolding allValid
 valid-more [] r = refl
-valid-more (x ∷ rs) r = ap (λ (b : Bool). valid x && b) (valid-more rs r) ∙ and-swap (valid x) (valid r) (allValid rs)
+valid-more (x ∷ rs) r = ap (λ (b : Bool). valid x && b) (valid-more rs r) ∙ and-exchanged (valid x) (valid r) (allValid rs)
 
 -- what one record more changes, and what it never does
 with-small : (i : ℕ) (s : Seen) (r : Record) → i < 16 → withOf i s r ≡ seenWith i s r
@@ -142,22 +136,19 @@ module _ (k : Kind) (q o : List ℕ) where
       abbrev theirs : List ℕ
       theirs = addresses ys
 
-      abbrev asked : ℕ
-      asked = addressIn (textIn k q)
-
       -- S3 to S7, or the place of the address
-      by-frame : unless (eqb (silenceIn (addressOf k q)) 0) (silent (silenceIn (addressOf k q)) ys o) (dispatched asked k ys q o)
+      by-frame : unless (eqb (silenceIn (addressOf k q)) 0) (silent (silenceIn (addressOf k q)) ys o) (dispatched (asked k q) k ys q o)
           ≡ settled ys (s .count) (wayTo (addressOf k q) (s .count) theirs)
       by-frame =
           address-cases
-          (λ (x : numbers.Answer). unless (eqb (silenceIn x) 0) (silent (silenceIn x) ys o) (dispatched asked k ys q o) ≡ settled ys (s .count) (wayTo x (s .count) theirs))
+          (λ (x : numbers.Answer). unless (eqb (silenceIn x) 0) (silent (silenceIn x) ys o) (dispatched (asked k q) k ys q o) ≡ settled ys (s .count) (wayTo x (s .count) theirs))
           k q
           (λ n low high. simp (ne-eqb n 0 (λ z. omega arith)) (quiet n))
-          (by-place asked ys ∙ ap (λ (m : ℕ). pick (ltb (placeIn asked theirs) m) (calledAt (placeIn asked theirs) ys) (silent 8 ys o)) (sym whole))
+          (by-place (asked k q) ys ∙ ap (λ (m : ℕ). pick (ltb (placeIn (asked k q) theirs) m) (calledAt (placeIn (asked k q) theirs) ys) (silent 8 ys o)) (sym whole))
 
       chain : (b₁₀ b₁₁ b₂ : Bool)
           → unless b₁₀ (silent 10 ys o) (unless b₁₁ (silent 11 ys o) (unless b₂ (silent 2 ys o)
-          (unless (eqb (silenceIn (addressOf k q)) 0) (silent (silenceIn (addressOf k q)) ys o) (dispatched asked k ys q o))))
+          (unless (eqb (silenceIn (addressOf k q)) 0) (silent (silenceIn (addressOf k q)) ys o) (dispatched (asked k q) k ys q o))))
           ≡ settled ys (s .count) (unless b₁₀ (silentAt (s .count) 10) (unless b₁₁ (silentAt (s .count) 11) (unless b₂ (silentAt (s .count) 2)
           (wayTo (addressOf k q) (s .count) theirs))))
       chain false b₁₁ b₂ = quiet 10

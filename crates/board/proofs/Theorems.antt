@@ -1,29 +1,29 @@
 -- What document 02's L5 says of the board, for any records, kind of link, request bytes and reply buffer.
 -- d stands for a record past a list's end. Assumes nothing.
 use Prim.Native.Nat.{ℕ, zero, suc, _≤_, _<_}
-use mathlib.Core.Bool.{Bool, true, false, not, _||_, true≢false}
+use mathlib.Core.Bool.{true}
 use mathlib.Core.Path.{_≡_, refl, sym, ap, subst, _∙_}
 use mathlib.Core.List.{List, [], _∷_}
 use mathlib.Core.Logic.{_⊎_, inl, inr, ⊎-elim}
 use native.Mathlib.Nat.{le-of-suc-le-suc, not-suc-le-zero}
 use native.Mathlib.Omega.{arith}
 use lib.Dec.{eqb}
-use lib.ListN.{length, getD, set, length-set}
+use lib.ListN.{length, getD, set, length-set, length-map, List·getD-map}
 use lib.Seq.{set-getD, getD-set-same, getD-set-other}
-use borrow.Author.Tests.{eqb-true, eq-eqb, ne-eqb, not-true}
-use Rattle.base.specs.Test.{between, member}
-use Rattle.base.proofs.Tests.{by-test, and-yes, and-left, and-right}
+use borrow.Author.Tests.{eqb-true, eq-eqb, ne-eqb}
+use Rattle.base.specs.Test.{between, allDistinct}
+use Rattle.base.proofs.Tests.{by-test, and-yes, and-left, and-right, distinct-place}
 use Rattle.state.specs.declared.Record.{Record}
-use Rattle.state.specs.Field.{address}
+use Rattle.state.specs.Field.{address, get}
 use Rattle.state.specs.Valid.{valid}
 use Rattle.frame.specs.declared.Kind.{Kind}
 use Rattle.frame.specs.Frame.{textIn}
 use Rattle.controller.specs.Call as one
 use Rattle.controller.specs.Call.{callOf}
 use Rattle.controller.proofs.Theorems.{Answered, is-answered, call-keeps-valid, address-kept}
-use Rattle.board.specs.Board.{Outcome, silent, allValid, allDistinct, addresses, behind, dispatched, boardOf}
+use Rattle.board.specs.Board.{Outcome, silent, allValid, addresses, behind, asked, dispatched, boardOf}
 use Rattle.board.proofs.Search.{calledAt}
-use Rattle.board.proofs.Requests.{Accepted, asked, answering, accepted-so, RefusedBy, accepted-or-not, ForAll, ForOne, for-all-or-one}
+use Rattle.board.proofs.Requests.{Accepted, answering, accepted-so, RefusedBy, accepted-or-not, ForAll, ForOne, for-all-or-one}
 
 -- ---- S10 and S11 are of every record
 module _ (d : Record) where
@@ -33,30 +33,12 @@ module _ (d : Record) where
   each-valid (r ∷ rs) v zero h = and-left (valid r) (allValid rs) v
   each-valid (r ∷ rs) v (suc i) h = each-valid rs (and-right (valid r) (allValid rs) v) i (le-of-suc-le-suc h)
 
-  -- an address is among those of the records behind place 0 if one of these has it
-  among : (x : ℕ) (rs : List Record) (i : ℕ) → i < length rs → getD rs i d .address ≡ x → member x (addresses rs) ≡ true
-  among x [] i h e = absurd (not-suc-le-zero h)
-  among x (r ∷ rs) zero h e = ap (λ (b : Bool). b || member x (addresses rs)) (eq-eqb x (r .address) (sym e))
-  among x (r ∷ rs) (suc i) h e = ap (λ (b : Bool). eqb x (r .address) || b) (among x rs i (le-of-suc-le-suc h) e) ∙ or-true (eqb x (r .address))
-    where
-      or-true : (b : Bool) → (b || true) ≡ true
-      or-true true = refl
-      or-true false = refl
-
-  not-again : (r : Record) (rs : List Record) → allDistinct (addresses (r ∷ rs)) ≡ true → (j : ℕ) → j < length rs → getD rs j d .address ≡ r .address → ⊥
-  unfolding allDistinct
-  not-again r rs u j l e =
-      true≢false (sym (among (r .address) rs j l e) ∙ not-true _ (and-left (not (member (r .address) (addresses rs))) (allDistinct (addresses rs)) u))
-
   pub each-distinct : (ys : List Record) → allDistinct (addresses ys) ≡ true → (i j : ℕ) → i < length ys → j < length ys
       → getD ys i d .address ≡ getD ys j d .address → i ≡ j
-  unfolding allDistinct
-  each-distinct [] u i j h l e = absurd (not-suc-le-zero h)
-  each-distinct (r ∷ rs) u zero zero h l e = refl
-  each-distinct (r ∷ rs) u zero (suc j) h l e = absurd (not-again r rs u j (le-of-suc-le-suc l) (sym e))
-  each-distinct (r ∷ rs) u (suc i) zero h l e = absurd (not-again r rs u i (le-of-suc-le-suc h) e)
-  each-distinct (r ∷ rs) u (suc i) (suc j) h l e =
-      ap suc (each-distinct rs (and-right (not (member (r .address) (addresses rs))) (allDistinct (addresses rs)) u) i j (le-of-suc-le-suc h) (le-of-suc-le-suc l) e)
+  each-distinct ys u i j h l e =
+      let n : length (addresses ys) ≡ length ys = length-map ys (get address) in
+      distinct-place (d .address) (addresses ys) u i j (omega arith) (omega arith)
+      (List·getD-map (get address) ys i d ∙ (e ∙ sym (List·getD-map (get address) ys j d)))
 
 module _ (k : Kind) (q o : List ℕ) (d : Record) where
   -- ---- "the request goes to the record with its address"

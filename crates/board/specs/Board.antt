@@ -1,11 +1,11 @@
 -- Document 02, L5: "One board, up to sixteen addresses."
 -- rs are the lent records, q is the lent request, o the lent reply buffer.
 use Prim.Native.Nat.{ℕ}
-use mathlib.Core.Bool.{Bool, true, _&&_, not}
+use mathlib.Core.Bool.{Bool, true, _&&_}
 use mathlib.Core.List.{List, [], _∷_, map}
 use lib.Dec.{eqb, leb}
 use lib.ListN.{length}
-use Rattle.base.specs.Test.{pick, unless, between, member}
+use Rattle.base.specs.Test.{pick, unless, between, allDistinct}
 use Rattle.state.specs.declared.Record.{Record}
 use Rattle.state.specs.Field.{address, get}
 use Rattle.state.specs.Valid.{valid}
@@ -37,10 +37,6 @@ allValid [] = true
 allValid (r ∷ rs) = valid r && allValid rs
 
 -- S11 "an address twice": whosever it is
-unfoldable pub allDistinct : List ℕ → Bool
-allDistinct [] = true
-allDistinct (x ∷ xs) = not (member x xs) && allDistinct xs
-
 abbrev pub addresses : List Record → List ℕ
 addresses rs = map (get address) rs
 
@@ -50,6 +46,10 @@ first c rs = record { silence = c .silence; reported = c .reported; records = c 
 
 abbrev pub behind : Record → Outcome → Outcome
 behind r x = record { silence = x .silence; reported = x .reported; records = r ∷ x .records; buffer = x .buffer }
+
+-- the address that a request names
+abbrev pub asked : Kind → List ℕ → ℕ
+asked k q = addressIn (textIn k q)
 
 -- "the request goes to the record with its address. Every other record stays"; S8: no record has that address
 unfoldable pub dispatched : ℕ → Kind → List Record → List ℕ → List ℕ → Outcome
@@ -65,7 +65,7 @@ boardOf k rs q o =
     (unless (allDistinct (addresses rs)) (silent 11 rs o)
     (unless (leb 64 (length o)) (silent 2 rs o)
     (unless (eqb (silenceIn (addressOf k q)) 0) (silent (silenceIn (addressOf k q)) rs o)
-    (dispatched (addressIn (textIn k q)) k rs q o)))))
+    (dispatched (asked k q) k rs q o)))))
 
 -- ---- the code's answer as document 02 numbers it: a silence's number and length 0, or no silence and the reply's length
 abbrev pub refusalNumber : Refusal → ℕ

@@ -4,7 +4,7 @@ use mathlib.Core.Bool.{true, _&&_}
 use mathlib.Core.List.{List, [], _∷_}
 use lib.Dec.{eqb, leb, ltb}
 use lib.ListN.{length, replicate, set, take}
-use Rattle.base.specs.Test.{pick, unless, between}
+use Rattle.base.specs.Test.{pick, unless, between, allDistinct}
 use Rattle.state.specs.declared.Record.{Record}
 use Rattle.state.specs.Field.{address, get}
 use Rattle.state.specs.Valid.{valid}
@@ -15,7 +15,7 @@ use Rattle.controller.specs.Call as one
 use Rattle.board.specs.declared.Answer.{Answer}
 use Rattle.board.specs.declared.Seen.{Seen}
 use Rattle.board.specs.declared.Found.{Found}
-use Rattle.board.specs.Board.{allDistinct, answerSilence, answerLength}
+use Rattle.board.specs.Board.{answerSilence, answerLength}
 
 -- nothing is seen of a list of so many records
 unfoldable pub unseen : ℕ → Seen

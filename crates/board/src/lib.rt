@@ -8,8 +8,9 @@ ghost use mathlib.Core.Path.{_≡_};
 ghost use mathlib.Core.Bool.{not};
 ghost use Prim.Native.Nat.{_≤_};
 ghost use lib.Dec.{eqb};
+ghost use Rattle.base.specs.Test.{allDistinct};
 ghost use Rattle.controller.specs.Call.{callOf};
-ghost use Rattle.board.specs.Board.{allDistinct, refusalNumber, answerSilence, outcomeAs, boardOf};
+ghost use Rattle.board.specs.Board.{refusalNumber, answerSilence, outcomeAs, boardOf};
 ghost use Rattle.board.specs.Steps.{unseen, withOf, placeIn, wayAs, foundOf, oneAs};
 
 // The most records that a board has.

@@ -2,18 +2,18 @@
 -- kind of link, request bytes and reply buffer. From the bytes of a reply back to its row: a frame determines its text, no accepted
 -- reply begins with "N", and two digits determine a number below 100. Assumes nothing.
 use Prim.Native.Nat.{ℕ, zero, suc, _+_, _/_, _%_, _≤_, _<_}
-use mathlib.Core.Bool.{Bool, true, false, not, _&&_, _||_, false≢true}
+use mathlib.Core.Bool.{Bool, true, false, not, _&&_, false≢true}
 use mathlib.Core.Path.{_≡_, refl, sym, ap, subst, _∙_}
-use mathlib.Core.List.{List, [], _∷_, _++_}
+use mathlib.Core.List.{List, [], _∷_, _++_, map}
 use mathlib.Core.Logic.{_↔_, _⊎_, inl, inr, ⊎-elim}
 use native.Mathlib.Nat.{le-of-suc-le-suc}
 use native.Mathlib.Omega.{arith}
 use lib.Dec.{eqb, leb, ltb}
-use lib.ListN.{length, take, drop, getD}
+use lib.ListN.{length, take, drop, getD, List·getD-map}
 use lib.Seq.{drop-at}
-use borrow.Author.Tests.{ltb-true, eqb-true, eq-eqb, ne-eqb}
-use Rattle.base.specs.Test.{unless, allBetween}
-use Rattle.base.proofs.Tests.{by-test, and-left, and-right, below-or-not, allBelow, holds-below}
+use borrow.Author.Tests.{ltb-true, ne-eqb}
+use Rattle.base.specs.Test.{unless, allBetween, allDistinct}
+use Rattle.base.proofs.Tests.{by-test, and-left, and-right, below-or-not, distinct-place}
 use Rattle.base.specs.Text.{text}
 use Rattle.state.specs.declared.Record.{Record}
 use Rattle.state.specs.Alarm.{characterValues}
@@ -163,10 +163,10 @@ number-below (row ∷ rows) (suc i) h = number-below rows i (and-right (ltb (row
 
 -- no two rows have the same number
 pub one-row : (i j : ℕ) → i < length refusals → j < length refusals → rowNumber (getD refusals i noRow) ≡ rowNumber (getD refusals j noRow) → i ≡ j
+unfolding allDistinct
 one-row i j l m e =
-    let same : ℕ → ℕ → Bool = λ a b. not (eqb (rowNumber (getD refusals a noRow)) (rowNumber (getD refusals b noRow))) || eqb a b in
-    let h : same i j ≡ true = holds-below (same i) (length refusals) (holds-below (λ (a : ℕ). allBelow (same a) (length refusals)) (length refusals) refl i l) j m in
-    eqb-true i j (simp (eq-eqb _ _ e) at h)
+    distinct-place (rowNumber noRow) (map rowNumber refusals) refl i j l m
+    (List·getD-map rowNumber refusals i noRow ∙ (e ∙ sym (List·getD-map rowNumber refusals j noRow)))
 
 -- ---- NO n goes out if and only if row n's own condition holds and no earlier row's does
 

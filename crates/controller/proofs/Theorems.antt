@@ -54,14 +54,6 @@ pub record Silenced (k : Kind) (r : Record) (q o : List ℕ) : Type 0 where
   pub same-record : callOf k r q o .after ≡ r
   pub same-buffer : callOf k r q o .buffer ≡ o
 
--- all of it in one
-pub silenced-is : (k : Kind) (r : Record) (q o : List ℕ) → Silenced k r q o → callOf k r q o ≡ silent (callOf k r q o .silence) r o
-silenced-is k r q o s =
-    let c : Outcome = callOf k r q o in
-    ap (λ (n : ℕ). record { silence = c .silence; reported = n; after = c .after; buffer = c .buffer }) (s .nothing)
-    ∙ (ap (λ (x : Record). record { silence = c .silence; reported = 0; after = x; buffer = c .buffer }) (s .same-record)
-    ∙ ap (λ (b : List ℕ). silent (c .silence) r b) (s .same-buffer))
-
 -- a reply: a frame of the same kind over the start of the buffer
 pub record Answered (k : Kind) (r : Record) (q o : List ℕ) : Type 0 where
   pub heard : callOf k r q o .silence ≡ 0

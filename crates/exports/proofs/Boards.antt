@@ -5,9 +5,7 @@ use mathlib.Core.Path.{_≡_, refl, sym, ap, subst, _∙_}
 use mathlib.Core.List.{List}
 use mathlib.Core.Logic.{_⊎_, inl, inr}
 use native.Mathlib.Omega.{arith}
-use lib.Dec.{eqb}
 use borrow.Author.Tests.{eq-eqb, ne-eqb, le-leb, lt-leb}
-use Rattle.base.specs.Test.{pick}
 use Rattle.frame.specs.declared.Kind.{Kind}
 use Rattle.frame.specs.declared.Silence.{Silence}
 use Rattle.frame.specs.Numbers.{silenceNumber}
@@ -16,39 +14,33 @@ use Rattle.controller.specs.declared.Answer as controller
 use Rattle.controller.specs.declared.Answer.the-variants.{Silent, Reply}
 use Rattle.controller.specs.Call.{answerSilence, answerLength}
 use Rattle.board.specs.declared.Refusal as list
-use Rattle.board.specs.declared.Refusal.the-variants as refusal
 use Rattle.board.specs.declared.Answer as board
 use Rattle.board.specs.declared.Answer.the-variants as called
 use Rattle.board.specs.Board.{Outcome, refusalNumber, boardOf}
+use Rattle.board.proofs.Laws.{refusal-low}
 use Rattle.storedboard.specs.declared.Answer as storedboard
 use Rattle.storedboard.specs.declared.Answer.the-variants as answer
-use Rattle.storedboard.specs.StoredBoard.{formsIn, recordsIn, Left, leftAs, refusedBy, silentBy, storedBoardOf}
+use Rattle.storedboard.specs.StoredBoard.{countIn, formsIn, recordsIn, Left, leftAs, refusedBy, silentBy, storedBoardOf}
 use Rattle.storedboard.proofs.Theorems as stored
-use Rattle.exports.specs.Bytes.{silenceAnswer, noSuch, isKind, kindOf, boardAnswer, boardLeft, boardBytes, answerLeft, Tellable}
+use Rattle.exports.specs.Bytes.{silenceAnswer, noSuch, isKind, kindOf, heardAnswer, boardAnswer, boardLeft, boardBytes, answerLeft, Tellable}
 use Rattle.exports.proofs.Theorems.{either, Within}
 
 -- ---- the numbers
 module _ (c : controller.Answer) where
-  pub call-silent : (w : Silence) (x : ℕ) → c ≡ Silent w → x ≡ silenceAnswer (silenceNumber w)
-      → x ≡ pick (eqb (answerSilence c) 0) (answerLength c) (silenceAnswer (answerSilence c))
-  call-silent w x e z =
+  pub answer-silent : (w : Silence) (x : ℕ) → c ≡ Silent w → x ≡ silenceAnswer (silenceNumber w) → x ≡ heardAnswer (answerSilence c) (answerLength c)
+  answer-silent w x e z =
       let l : 1 ≤ silenceNumber w = silence-low w in
       z
       ∙ (sym (simp (ne-eqb (silenceNumber w) 0 (λ u. omega arith)))
-      ∙ ap (λ (y : controller.Answer). pick (eqb (answerSilence y) 0) (answerLength y) (silenceAnswer (answerSilence y))) (sym e))
+      ∙ ap (λ (y : controller.Answer). heardAnswer (answerSilence y) (answerLength y)) (sym e))
 
-  pub call-reply : (n : ℕ) → c ≡ Reply n → n ≡ pick (eqb (answerSilence c) 0) (answerLength c) (silenceAnswer (answerSilence c))
-  call-reply n e = ap (λ (y : controller.Answer). pick (eqb (answerSilence y) 0) (answerLength y) (silenceAnswer (answerSilence y))) (sym e)
+  pub answer-reply : (n : ℕ) → c ≡ Reply n → n ≡ heardAnswer (answerSilence c) (answerLength c)
+  answer-reply n e = ap (λ (y : controller.Answer). heardAnswer (answerSilence y) (answerLength y)) (sym e)
 
-  pub call-fits : (n : ℕ) → answerLength c ≤ 64 → c ≡ Reply n → n < 2 ^ 32
-  call-fits n h e = let l : n ≤ 64 = subst (λ (y : controller.Answer). answerLength y ≤ 64) e h in omega arith
+  pub answer-fits : (n : ℕ) → answerLength c ≤ 64 → c ≡ Reply n → n < 2 ^ 32
+  answer-fits n h e = let l : n ≤ 64 = subst (λ (y : controller.Answer). answerLength y ≤ 64) e h in omega arith
 
-pub ruleset answering = (call-silent, call-reply)
-
-refusal-low : (w : list.Refusal) → 1 ≤ refusalNumber w
-refusal-low refusal.ListLength = omega arith
-refusal-low refusal.InvalidRecord = omega arith
-refusal-low refusal.AddressTwice = omega arith
+pub ruleset answering = (answer-silent, answer-reply)
 
 module _ (a : storedboard.Answer) where
   pub told-refused : (n m : ℕ) → a ≡ answer.Refused n → Tellable a → m ≡ n → 200 + m ≡ boardAnswer (answerLeft a)
@@ -59,11 +51,11 @@ module _ (a : storedboard.Answer) where
   module _ (c : board.Answer) (e : a ≡ answer.Called c) where
     pub told-list : (w : list.Refusal) (m i : ℕ) → c ≡ called.Refused w → m ≡ refusalNumber w → i ≡ m → 100 + i ≡ boardAnswer (answerLeft a)
     told-list w m i f z y =
-        let l : 1 ≤ refusalNumber w = refusal-low w in
+        let l : 9 ≤ refusalNumber w = refusal-low w in
         ap (λ (j : ℕ). 100 + j) (y ∙ z)
         ∙ (sym (simp (ne-eqb (refusalNumber w) 0 (λ u. omega arith))) ∙ ap (λ (y : storedboard.Answer). boardAnswer (answerLeft y)) (sym (e ∙ ap answer.Called f)))
 
-    pub told-call : (d : controller.Answer) (x : ℕ) → c ≡ called.Called d → x ≡ pick (eqb (answerSilence d) 0) (answerLength d) (silenceAnswer (answerSilence d))
+    pub told-call : (d : controller.Answer) (x : ℕ) → c ≡ called.Called d → x ≡ heardAnswer (answerSilence d) (answerLength d)
         → x ≡ boardAnswer (answerLeft a)
     told-call d x f z = z ∙ ap (λ (y : storedboard.Answer). boardAnswer (answerLeft y)) (sym (e ∙ ap answer.Called f))
 
@@ -164,9 +156,9 @@ module _ (kind : ℕ) (s q o : List ℕ) where
   -- "the record after it in its place, and every other record as it was": the stored bytes then read as the records that the board's call
   -- leaves
   pub board-stores : boardBytes kind s q o .0 < 100
-      → recordsIn (formsIn (stored.count k s q o) (boardBytes kind s q o .1 .0)) ≡ boardOf k (stored.records k s q o) q o .records
+      → recordsIn (formsIn (countIn s) (boardBytes kind s q o .1 .0)) ≡ boardOf k (stored.recordsOf s) q o .records
   board-stores =
       board-cases
-      (λ (p : ℕ × (List ℕ × List ℕ)). p .0 < 100 → recordsIn (formsIn (stored.count k s q o) (p .1 .0)) ≡ boardOf k (stored.records k s q o) q o .records)
+      (λ (p : ℕ × (List ℕ × List ℕ)). p .0 < 100 → recordsIn (formsIn (countIn s) (p .1 .0)) ≡ boardOf k (stored.recordsOf s) q o .records)
       (λ h. absurd (omega arith)) (λ n w h. absurd (omega arith)) (λ n w y h. absurd (omega arith))
-      (λ x h. ap (λ (p : ℕ × (List ℕ × List ℕ)). recordsIn (formsIn (stored.count k s q o) (p .1 .0))) (replied-so x) ∙ stored.reads-back k s q o x)
+      (λ x h. ap (λ (p : ℕ × (List ℕ × List ℕ)). recordsIn (formsIn (countIn s) (p .1 .0))) (replied-so x) ∙ stored.reads-back k s q o x)

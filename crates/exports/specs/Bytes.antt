@@ -133,9 +133,13 @@ severalBytes s b o = inPlace (openOf s) (λ n. nothingTaken n s o) (λ r. severa
 
 -- ---- khuyapesh_board: the answer, the stored bytes and the reply buffer
 
--- "K1 .., S9 .., the first record's K1 to K4; S11, S2 to S8"; or the reply's length
+-- "the reply's length", or a silence
+abbrev pub heardAnswer : ℕ → ℕ → ℕ
+heardAnswer silence reported = pick (eqb silence 0) reported (silenceAnswer silence)
+
+-- "K1 .., S9 .., the first record's K1 to K4; S11, S2 to S8"
 abbrev pub boardAnswer : Left → ℕ
-boardAnswer x = unless (eqb (x .refused) 0) (storedAnswer (K (x .refused))) (pick (eqb (x .silence) 0) (x .reported) (silenceAnswer (x .silence)))
+boardAnswer x = unless (eqb (x .refused) 0) (storedAnswer (K (x .refused))) (heardAnswer (x .silence) (x .reported))
 
 unfoldable pub boardLeft : Left → ℕ × (List ℕ × List ℕ)
 boardLeft x = (boardAnswer x, (x .stored, x .buffer))

@@ -12,15 +12,14 @@ use stored::Refusal;
 use stored::STORED_LENGTH;
 ghost use mathlib.Core.Path.{_≡_};
 ghost use Prim.Native.Nat.{_≤_};
-ghost use lib.Dec.{eqb, leb};
-ghost use Rattle.base.specs.Test.{pick};
+ghost use lib.Dec.{leb};
 ghost use Rattle.stored.specs.Layout.{current};
 ghost use Rattle.stored.specs.Form.{K, refusalNumber, answerAs, storedLength};
 ghost use Rattle.frame.specs.Numbers.{silenceNumber, lengthIn, builtAs, readAs};
 ghost use Rattle.controller.specs.Call.{answerSilence, answerLength, callOf};
 ghost use Rattle.several.specs.Several.{severalOf};
 ghost use Rattle.judging.specs.Judge.{judgementOf};
-ghost use Rattle.exports.specs.Bytes.{silenceAnswer, storedAnswer, hostAnswer, kindOf, eventOf, openAnswer, openOf, callLeft, callBytes, severalNumbers, severalAs, severalLeft, severalBytes, boardAnswer, answerLeft, Tellable, boardBytes, panelBytes, storedBytes, buildBytes, readBytes, judgeNumbers};
+ghost use Rattle.exports.specs.Bytes.{silenceAnswer, storedAnswer, hostAnswer, kindOf, eventOf, openAnswer, openOf, callLeft, callBytes, severalNumbers, severalAs, severalLeft, severalBytes, heardAnswer, boardAnswer, answerLeft, Tellable, boardBytes, panelBytes, storedBytes, buildBytes, readBytes, judgeNumbers};
 
 // ---- the numbers that are answered
 
@@ -108,7 +107,7 @@ fn text_answer(read: TextRead) -> u32
 
 fn call_answer(called: Answer) -> u32
     requires { ⌜ answerLength called ≤ 64 ⌝ }
-    ensures { λ n. ⌜ n ≡ pick (eqb (answerSilence called) 0) (answerLength called) (silenceAnswer (answerSilence called)) ⌝ }
+    ensures { λ n. ⌜ n ≡ heardAnswer (answerSilence called) (answerLength called) ⌝ }
 {
     match called {
         Answer::Silent(why) => silence_answer(why),

@@ -4,32 +4,50 @@ use mathlib.Core.Path.{_≡_, refl, sym, ap, _∙_}
 use mathlib.Core.List.{List, [], _∷_, _++_, map-append}
 use native.Mathlib.Omega.{arith}
 use native.Mathlib.Numerals.{add-one}
-use lib.ListN.{length, take, drop, set, length-set}
+use lib.ListN.{length, take, drop, set, length-set, length-map}
 use lib.Seq.{drop-drop, take-suc-set}
 use borrow.Author.Tests.{ne-eqb}
 use Rattle.state.specs.declared.Record.{Record}
 use Rattle.stored.specs.declared.Refusal.{Refusal}
-use Rattle.stored.specs.declared.Refusal.the-variants as refusal
 use Rattle.stored.specs.declared.Answer.{Answer}
 use Rattle.stored.specs.declared.Answer.the-variants as answer
 use Rattle.stored.specs.Form as stored
 use Rattle.stored.specs.Form.{refusalNumber, answerAs, readOf}
-use Rattle.stored.proofs.RoundTrip.{stored-180}
+use Rattle.stored.specs.Layout.{current}
+use Rattle.stored.proofs.Versions.{lengthOf}
+use Rattle.stored.proofs.RoundTrip.{stored-180, read-refusal}
 use Rattle.storedboard.specs.StoredBoard.{each, formsIn, recordsIn, refusalIn, firstRefused}
+
+-- the bytes of one record, as the code's number
+abbrev pub width : ℕ
+width = lengthOf current
+
+pub width-is : each ≡ width
+width-is = stored-180
 
 -- ---- the places
 
 -- the bytes of the record at place i are the lent part
-form-at : (i : ℕ) (s : List ℕ) → take (i * 180 + 180 - i * 180) (drop (i * 180) s) ≡ take each (drop (i * each) s)
+form-at : (i : ℕ) (s : List ℕ) → take (i * width + width - i * width) (drop (i * width) s) ≡ take each (drop (i * each) s)
 form-at i s =
-    let e : i * 180 + 180 - i * 180 ≡ each = simp stored-180 (omega arith) in
-    let d : i * 180 ≡ i * each = simp stored-180 in
-    ap (λ (n : ℕ). take n (drop (i * 180) s)) e ∙ ap (λ (n : ℕ). take each (drop n s)) d
+    let e : i * width + width - i * width ≡ each = simp width-is (omega arith) in
+    let d : i * width ≡ i * each = simp width-is in
+    ap (λ (n : ℕ). take n (drop (i * width) s)) e ∙ ap (λ (n : ℕ). take each (drop n s)) d
 
--- the next place
+pub first-place : (s : List ℕ) → take each (drop (0 * each) s) ≡ take each s
+first-place s =
+    let e : 0 * each ≡ 0 = simp width-is in
+    ap (λ (n : ℕ). take each (drop n s)) e
+
+-- the next place: of what is behind the first record, and of what is behind the first i
+pub next-place : (j : ℕ) (s : List ℕ) → drop (j * each) (drop each s) ≡ drop (suc j * each) s
+next-place j s =
+    let e : each + j * each ≡ suc j * each = simp width-is (omega arith) in
+    drop-drop (j * each) each s ∙ ap (λ (n : ℕ). drop n s) e
+
 rest-next : (i : ℕ) (s : List ℕ) → drop each (drop (i * each) s) ≡ drop ((i + 1) * each) s
 rest-next i s =
-    let e : i * each + each ≡ (i + 1) * each = simp stored-180 (omega arith) in
+    let e : i * each + each ≡ (i + 1) * each = simp width-is (omega arith) in
     drop-drop each (i * each) s ∙ ap (λ (n : ℕ). drop n s) e
 
 -- ---- the forms from place i on, and up to it
@@ -43,12 +61,18 @@ forms-from n i s h =
 
 forms-more : (i : ℕ) (s : List ℕ) → formsIn (suc i) s ≡ formsIn i s ++ (take each (drop (i * each) s) ∷ [])
 unfolding formsIn
-forms-more zero s = let e : 0 ≡ 0 * each = simp stored-180 in ap (λ (n : ℕ). take each (drop n s) ∷ []) e
+forms-more zero s = ap (λ (t : List ℕ). t ∷ []) (sym (first-place s))
 forms-more (suc i) s =
-    let e : each + i * each ≡ suc i * each = simp stored-180 (omega arith) in
     ap (λ (bs : List (List ℕ)). take each s ∷ bs) (forms-more i (drop each s))
-    ∙ ap (λ (t : List ℕ). take each s ∷ (formsIn i (drop each s) ++ (take each t ∷ [])))
-    (drop-drop (i * each) each s ∙ ap (λ (n : ℕ). drop n s) e)
+    ∙ ap (λ (t : List ℕ). take each s ∷ (formsIn i (drop each s) ++ (take each t ∷ []))) (next-place i s)
+
+pub forms-count : (n : ℕ) (s : List ℕ) → length (formsIn n s) ≡ n
+unfolding formsIn
+forms-count zero s = refl
+forms-count (suc n) s = ap suc (forms-count n (drop each s))
+
+pub read-many : (n : ℕ) (s : List ℕ) → length (recordsIn (formsIn n s)) ≡ n
+read-many n s = length-map (formsIn n s) (λ (b : List ℕ). readOf b .1) ∙ forms-count n s
 
 -- ---- the first that is refused, from place i on
 refused-here : (b : List ℕ) (bs : List (List ℕ)) (m : ℕ) → refusalIn (readOf b .0) ≡ m → 1 ≤ m → firstRefused (b ∷ bs) ≡ m
@@ -58,12 +82,6 @@ refused-here b bs m e l = simp (e, ne-eqb m 0 (λ z. omega arith))
 refused-later : (b : List ℕ) (bs : List (List ℕ)) → refusalIn (readOf b .0) ≡ 0 → firstRefused (b ∷ bs) ≡ firstRefused bs
 unfolding firstRefused
 refused-later b bs e = simp e
-
-refusal-low : (w : Refusal) → 1 ≤ refusalNumber w
-refusal-low refusal.Length = omega arith
-refusal-low refusal.Version = omega arith
-refusal-low refusal.LengthField = omega arith
-refusal-low refusal.Field = omega arith
 
 -- ---- what holds before the turn at place i
 pub record Passed (s : List ℕ) (n : ℕ) (rs : List Record) (i : ℕ) : Type 0 where
@@ -77,7 +95,7 @@ pub record Passed (s : List ℕ) (n : ℕ) (rs : List Record) (i : ℕ) : Type 0
 pub none-yet : {s : List ℕ} {n : ℕ} {rs : List Record} → n ≤ 16 → n * each ≤ length s → length rs ≡ 16 → Passed s n rs 0
 unfolding formsIn
 none-yet {s} {n} {rs} h g l =
-    let e : 0 * each ≡ 0 = simp stored-180 in
+    let e : 0 * each ≡ 0 = simp width-is in
     let d : n - 0 ≡ n = omega arith in
     record {
       few = h;
@@ -102,33 +120,31 @@ module _ {s : List ℕ} {n : ℕ} {rs : List Record} {i : ℕ} (p : Passed s n r
 
   module _ (h : i < n) where
     -- the part fits into the lent bytes, and the place into the list
-    pub part-fits : i * 180 + 180 ≤ length s
+    pub part-fits : i * width + width ≤ length s
     part-fits =
-        let g : n * 180 ≤ length s = simp stored-180 at (p .room) in
+        let g : n * width ≤ length s = simp width-is at (p .room) in
         omega arith
 
     place-fits : i < length rs
     place-fits = let f = p .few in let l = p .size in omega arith
 
-    module _ (a : Answer) {r : Record} (e : (answerAs a, r) ≡ readOf (take (i * 180 + 180 - i * 180) (drop (i * 180) s))) where
+    module _ (a : Answer) {r : Record} (e : (answerAs a, r) ≡ readOf (take (i * width + width - i * width) (drop (i * width) s))) where
       read-here : readOf (take each (drop (i * each) s)) ≡ (answerAs a, r)
       read-here = sym (e ∙ ap readOf (form-at i s))
-
-      told-here : refusalIn (readOf (take each (drop (i * each) s)) .0) ≡ refusalIn (answerAs a)
-      told-here = ap (λ (x : stored.Outcome × Record). refusalIn (x .0)) read-here
 
       -- the record at place i is refused
       pub found-refused : {w : Refusal} {m : ℕ} → a ≡ answer.Refused w → m ≡ refusalNumber w
           → (m ≡ firstRefused (formsIn n s)) × (m ≡ 0 → take n rs ≡ recordsIn (formsIn n s))
       found-refused {w} {m} z q =
-          let l : 1 ≤ m = omega (arith, refusal-low w) in
-          let t : refusalIn (readOf (take each (drop (i * each) s)) .0) ≡ m = told-here ∙ (ap (λ (x : Answer). refusalIn (answerAs x)) z ∙ sym q) in
+          let k : readOf (take each (drop (i * each) s)) ≡ (stored.K (refusalNumber w), r) = read-here ∙ ap (λ (x : Answer). (answerAs x, r)) z in
+          let l : 1 ≤ m = omega (arith, read-refusal _ _ _ k .low) in
+          let t : refusalIn (readOf (take each (drop (i * each) s)) .0) ≡ m = ap (λ (x : stored.Outcome × Record). refusalIn (x .0)) k ∙ sym q in
           (sym (p .refusal-left ∙ (ap firstRefused (forms-from n i s h) ∙ refused-here _ _ m t l)), λ u. absurd (omega arith))
 
       -- it is read whole
       pub one-more : a ≡ answer.Whole → Passed s n (set rs i r) (i + 1)
       one-more z =
-          let t : refusalIn (readOf (take each (drop (i * each) s)) .0) ≡ 0 = told-here ∙ ap (λ (x : Answer). refusalIn (answerAs x)) z in
+          let t : refusalIn (readOf (take each (drop (i * each) s)) .0) ≡ 0 = ap (λ (x : stored.Outcome × Record). refusalIn (x .0)) read-here ∙ ap (λ (x : Answer). refusalIn (answerAs x)) z in
           record {
             few = p .few;
             room = p .room;

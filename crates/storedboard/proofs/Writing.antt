@@ -14,22 +14,13 @@ use Rattle.base.specs.Test.{pick}
 use Rattle.base.proofs.Tests.{by-test}
 use Rattle.state.specs.declared.Record.{Record}
 use Rattle.state.specs.Valid.{valid}
-use Rattle.stored.specs.Layout.{current}
 use Rattle.stored.specs.Form.{Outcome, writeOf, lowRecord}
-use Rattle.stored.proofs.Slots.{stored-180}
-use Rattle.stored.proofs.Versions.{lengthOf}
 use Rattle.board.specs.declared.Answer.{Answer}
 use Rattle.board.specs.Board as board
 use Rattle.board.specs.Board.{answerSilence, outcomeAs}
-use Rattle.storedboard.specs.StoredBoard.{each}
-use Rattle.storedboard.specs.Steps.{saved, savedOf, lentAs, lentOf}
-
--- the bytes of one record, as the code's number
-abbrev pub width : ℕ
-width = lengthOf current
-
-width-is : each ≡ width
-width-is = stored-180
+use Rattle.storedboard.specs.StoredBoard.{each, calledAs}
+use Rattle.storedboard.specs.Steps.{saved, savedOf, lentOf}
+use Rattle.storedboard.proofs.Reading.{width, width-is}
 
 -- ---- a place that is not whole: nothing is written
 short-stays : (r : Record) (o : List ℕ) → length o < each → writeOf r o .1 ≡ o
@@ -147,8 +138,8 @@ module _ {a i n : ℕ} {rs : List Record} {s s₀ : List ℕ} (p : Passed a i n 
 
 -- ---- lending: what the board's call left of the first n records is saved
 pub lent-so : (a : Answer) (c : board.Outcome) (n address : ℕ) (rs rest : List Record) (os s s′ : List ℕ) → length rs ≡ n → outcomeAs a rs os ≡ c
-    → s′ ≡ savedOf (answerSilence a) address (take n (rs ++ rest)) s → lentAs a s′ os ≡ lentOf address c s
+    → s′ ≡ savedOf (answerSilence a) address (take n (rs ++ rest)) s → calledAs a s′ os ≡ lentOf address c s
 unfolding lentOf
 lent-so a c n address rs rest os s s′ l e h =
     let t : take n (rs ++ rest) ≡ rs = take-at rs rest n l in
-    ap (λ (x : List ℕ). lentAs a x os) (h ∙ ap (λ (l : List Record). savedOf (answerSilence a) address l s) t) ∙ ap (λ (x : board.Outcome). lentOf address x s) e
+    ap (λ (x : List ℕ). calledAs a x os) (h ∙ ap (λ (l : List Record). savedOf (answerSilence a) address l s) t) ∙ ap (λ (x : board.Outcome). lentOf address x s) e

@@ -9,8 +9,7 @@ use Rattle.state.specs.Field.{address, get}
 use Rattle.frame.specs.Numbers as numbers
 use Rattle.stored.specs.Form.{writeOf}
 use Rattle.board.specs.Board as board
-use Rattle.board.specs.declared.Answer.{Answer}
-use Rattle.storedboard.specs.StoredBoard.{each}
+use Rattle.storedboard.specs.StoredBoard.{each, Left}
 
 -- the address that a frame names; 0, which is no record's, if it names none
 unfoldable pub target : numbers.Answer → ℕ
@@ -28,15 +27,6 @@ saved a (r ∷ rs) s = pick (eqb a (get address r)) (writeOf r (take each s) .1 
 unfoldable pub savedOf : ℕ → ℕ → List Record → List ℕ → List ℕ
 savedOf silence a rs s = pick (eqb silence 0) (saved a rs s) s
 
--- what the board's call leaves over the stored bytes
-pub record Lent : Type 0 where
-  pub silence : ℕ
-  pub reported : ℕ
-  pub stored : List ℕ
-  pub buffer : List ℕ
-
-abbrev pub lentAs : Answer → List ℕ → List ℕ → Lent
-lentAs a s o = record { silence = board.answerSilence a; reported = board.answerLength a; stored = s; buffer = o }
-
-unfoldable pub lentOf : ℕ → board.Outcome → List ℕ → Lent
-lentOf a c s = record { silence = c .silence; reported = c .reported; stored = savedOf (c .silence) a (c .records) s; buffer = c .buffer }
+-- what the board's call, to address a, leaves over the stored bytes
+unfoldable pub lentOf : ℕ → board.Outcome → List ℕ → Left
+lentOf a c s = record { refused = 0; silence = c .silence; reported = c .reported; stored = savedOf (c .silence) a (c .records) s; buffer = c .buffer }

@@ -11,9 +11,8 @@ use Rattle.stored.specs.Layout.{current}
 use Rattle.stored.specs.Form as stored
 use Rattle.stored.specs.Form.{K, done, storedLength, storedForm, readOf}
 use Rattle.frame.specs.declared.Kind.{Kind}
-use Rattle.frame.specs.Frame.{addressIn, textIn}
-use Rattle.board.specs.Board as board
-use Rattle.board.specs.Board.{boardOf}
+use Rattle.board.specs.declared.Answer as board
+use Rattle.board.specs.Board.{Outcome, asked, boardOf, answerSilence, answerLength}
 use Rattle.storedboard.specs.declared.Answer.{Answer}
 use Rattle.storedboard.specs.declared.Answer.the-variants as answer
 
@@ -21,7 +20,10 @@ use Rattle.storedboard.specs.declared.Answer.the-variants as answer
 abbrev pub each : ℕ
 each = storedLength current
 
--- ---- reading: the stored forms of n records, and these records
+-- ---- reading: how many records there are, the stored forms of n of them, and these records
+abbrev pub countIn : List ℕ → ℕ
+countIn s = length s / each
+
 unfoldable pub formsIn : ℕ → List ℕ → List (List ℕ)
 formsIn zero s = []
 formsIn (suc n) s = take each s ∷ formsIn n (drop each s)
@@ -60,7 +62,7 @@ abbrev pub silentBy : ℕ → List ℕ → List ℕ → Left
 silentBy n s o = record { refused = 0; silence = n; reported = 0; stored = s; buffer = o }
 
 -- the board's call, to address a
-abbrev pub calledOn : ℕ → board.Outcome → List ℕ → Left
+abbrev pub calledOn : ℕ → Outcome → List ℕ → Left
 calledOn a c s =
     record {
       refused = 0;
@@ -74,13 +76,16 @@ calledOn a c s =
 -- S10 cannot come; then the board's call
 unfoldable pub storedBoardOf : Kind → List ℕ → List ℕ → List ℕ → Left
 storedBoardOf k s q o =
-    let bs = formsIn (length s / each) s in
+    let bs = formsIn (countIn s) s in
     unless (eqb (length s % each) 0) (refusedBy 1 s o)
-    (unless (between 1 16 (length s / each)) (silentBy 9 s o)
+    (unless (between 1 16 (countIn s)) (silentBy 9 s o)
     (unless (eqb (firstRefused bs) 0) (refusedBy (firstRefused bs) s o)
-    (calledOn (addressIn (textIn k q)) (boardOf k (recordsIn bs) q o) s)))
+    (calledOn (asked k q) (boardOf k (recordsIn bs) q o) s)))
 
--- ---- the code's answer as the papers number it
+-- ---- the board's answer and the code's, as the papers number them
+abbrev pub calledAs : board.Answer → List ℕ → List ℕ → Left
+calledAs a s o = record { refused = 0; silence = answerSilence a; reported = answerLength a; stored = s; buffer = o }
+
 abbrev pub leftAs : Answer → List ℕ → List ℕ → Left
 leftAs (answer.Refused n) s o = refusedBy n s o
-leftAs (answer.Called a) s o = record { refused = 0; silence = board.answerSilence a; reported = board.answerLength a; stored = s; buffer = o }
+leftAs (answer.Called a) s o = calledAs a s o

@@ -9,8 +9,8 @@ ghost use Prim.Native.Nat.{_*_, _≤_};
 ghost use lib.ListN.{length, take};
 ghost use Rattle.frame.specs.Answer.{addressOf};
 ghost use Rattle.board.specs.Board.{answerSilence, boardOf};
-ghost use Rattle.storedboard.specs.StoredBoard.{each, formsIn, recordsIn, firstRefused, leftAs, storedBoardOf};
-ghost use Rattle.storedboard.specs.Steps.{target, savedOf, lentAs, lentOf};
+ghost use Rattle.storedboard.specs.StoredBoard.{each, formsIn, recordsIn, firstRefused, calledAs, leftAs, storedBoardOf};
+ghost use Rattle.storedboard.specs.Steps.{target, savedOf, lentOf};
 
 pub enum Answer {
     // The number n of Kn: K1 for the length of the whole, or that of the first record that is refused.
@@ -93,7 +93,7 @@ fn lend(
     out: &mut [u8],
 ) -> board::Answer
     requires { ⌜ n ≤ 16 ⌝ }
-    ensures { λ a. ⌜ lentAs a (now (stored .exit)) (now (out .exit)) ≡ lentOf address (boardOf kind (take n records) (now (request .entry)) (now (out .entry))) (now (stored .entry)) ⌝ }
+    ensures { λ a. ⌜ calledAs a (now (stored .exit)) (now (out .exit)) ≡ lentOf address (boardOf kind (take n records) (now (request .entry)) (now (out .entry))) (now (stored .entry)) ⌝ }
 {
     let answer = board::call(kind, &mut records[..n], request, out);
     save(answer, records, n, address, stored);

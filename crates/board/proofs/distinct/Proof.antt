@@ -3,7 +3,7 @@ use Prim.Native.Nat.{_≤_, _-_}
 use mathlib.Core.Path.{_≡_, refl}
 use borrow.Author.Needs.{needs}
 use lib.ListN.{length, drop}
-use Rattle.board.specs.Board.{allDistinct}
+use Rattle.base.specs.Test.{allDistinct}
 use Rattle.board.proofs.Laws.{distinct-found, distinct-turn, distinct-end}
 use Rattle.board.proofs.distinct.Statement.{statement}
 use Rattle.board.proofs.distinct.Tie as tie

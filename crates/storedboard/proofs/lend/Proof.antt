@@ -65,7 +65,8 @@ use Rattle.board.proofs.call.Symbol.{name as #board·call}
 use Rattle.board.proofs.call.Met as board-met
 use Rattle.kept.proofs.Values.{kindVal, IsKind, kind-typed, kind-owned}
 use Rattle.board.proofs.Values.{answerVal, IsAnswer, answer-typed, answer-owned}
-use Rattle.storedboard.specs.Steps.{savedOf, lentAs, lentOf}
+use Rattle.storedboard.specs.StoredBoard.{calledAs}
+use Rattle.storedboard.specs.Steps.{savedOf, lentOf}
 use Rattle.storedboard.proofs.Writing.{lent-so}
 use Rattle.storedboard.proofs.Arrays.{sixteen, arrayTy, arrayVals, IsArray, array-typed-so, array-out, array-in}
 use Rattle.storedboard.proofs.save as save
@@ -221,7 +222,7 @@ module _ {M : Type 1} (𝓤 : URA M) (H : Heap 𝓤) (A : Atoms 𝓤) (W : Given
   abbrev Left : List ℕ → List ℕ → List (Item 𝓤)
   Left ss os = (‵ (flft κ₀ q₀) ⊛ tokens) ∷ ‵ (finally u8 (stored .name) ss) ∷ ‵ Request ∷ ‵ (finally u8 (out .name) os) ∷ []
 
-  exits : (a : Answer) (ss os : List ℕ) → lentAs a ss os ≡ lentOf address (boardOf k front (request .now) (out .now)) (stored .now) → length ss ≡ length (stored .now) → length os ≡ length (out .now) → IsAnswer a → ent 𝓤 (⋆ 𝓤 H A (Left ss os)) (Post (answerVal a))
+  exits : (a : Answer) (ss os : List ℕ) → calledAs a ss os ≡ lentOf address (boardOf k front (request .now) (out .now)) (stored .now) → length ss ≡ length (stored .now) → length os ≡ length (out .now) → IsAnswer a → ent 𝓤 (⋆ 𝓤 H A (Left ss os)) (Post (answerVal a))
   exits a ss os e l l′ is-answer =
       qed W (Left ss os) ∵
       suffices ! _ (ends-at 𝓤 H A lend.ended stayed (lend.clauses 𝓤 H A at-mem run) W ((κs, qs, tt, arguments, at), tt) (answerVal a) a (tt, (tt, (tt, (tt, (ss, (tt, (os, tt))))))) (tt, (tt, (tt, (tt, (l, (tt, (l′, tt)))))))) $
