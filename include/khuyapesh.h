@@ -1,4 +1,5 @@
-/* The proved blending controller, panel, stored form, host side and judge, over bytes and numbers. For C99 and C++.
+/* The proved blending controller, panel, stored form, host side, drum change and judge, over bytes and numbers. For C99 and
+ * C++.
  *
  * Every function takes any bytes, lengths and numbers. What no proof can give is asked of the pointers:
  *     none is null, also where the length beside it is 0;
@@ -33,6 +34,9 @@
 /* The most records on one board. */
 #define KHUYAPESH_BOARD_RECORDS 16
 
+/* Bytes of the state of a drum change. */
+#define KHUYAPESH_DRUM_STATE 8
+
 /* The kind of a link. */
 #define KHUYAPESH_MINICOMPUTER 0
 #define KHUYAPESH_TERMINAL 1
@@ -58,12 +62,16 @@
  *         short buffer
  *     no such kind or event: alone, nothing is added
  *     host side: H1 short buffer, H2 text's length, H3 text byte
- *     recordings: J1 length, J2 version, J3 length field, J4 address or access, J5 cut exchange */
+ *     recordings: J1 length, J2 version, J3 length field, J4 address or access, J5 cut exchange
+ *     drum change refused: Q0 address, Q1 recipe, Q2 factor, Q3 preset, Q4 no reply is awaited or the state is out of range
+ *     drum change stopped by a wrong reply: the step, 1 NR, 2 PC, 3 PV, 4 RC, 5 SB */
 #define KHUYAPESH_SILENCE 100u
 #define KHUYAPESH_STORED 200u
 #define KHUYAPESH_NO_SUCH 300u
 #define KHUYAPESH_HOST 400u
 #define KHUYAPESH_RECORDING 500u
+#define KHUYAPESH_DRUM 600u
+#define KHUYAPESH_STOPPED 700u
 
 /* Whether an answer of any of the functions is a silence or refusal; if so, its class and its number within that. */
 static inline int khuyapesh_is_refusal(uint32_t answer) { return answer >= KHUYAPESH_SILENCE; }
@@ -124,6 +132,25 @@ uint32_t khuyapesh_read(uint8_t kind, const uint8_t *frame, size_t frame_length,
 /* Judges a recording. Answers KHUYAPESH_FITS for `fits N`, with 0 in *place and N in *count; KHUYAPESH_REFUTED for `refuted
  * at I of N`, with I in *place and N in *count; J1 to J5 for `refused Jn`, with 0 in both. */
 uint32_t khuyapesh_judge(const uint8_t *recording, size_t recording_length, size_t *place, size_t *count);
+
+/* Drum change: gives a unit a recipe (1 to 8) with a new factor (8,000 to 12,000), and a batch of the preset (1 to 999,999)
+ * only after the unit has shown that it holds both. It hands out the requests NR, PC, PV, RC and SB in turn, as minicomputer
+ * frames, at the start of the request buffer, the rest of which stays. Send each, lend what came back to
+ * khuyapesh_drum_take (for a silence no bytes), and go on until the answer is no length. A reply is right only byte for byte.
+ *
+ * The state is KHUYAPESH_DRUM_STATE bytes, numbers high byte first: address 1, recipe 1, factor 2, preset 3, step 1 (1 to 5:
+ * that reply is awaited; 6: ended; 11 to 15: stopped at step 1 to 5). Any request still out when it is begun anew is forgotten.
+ *
+ * khuyapesh_drum_begin answers the first request's length, with the state written; or Q0 to Q3, then Q4 for a state that is not
+ * of that length, then H1 for a request buffer under KHUYAPESH_FRAME_ROOM bytes. It does not look at what the state held. */
+uint32_t khuyapesh_drum_begin(uint8_t address, uint8_t recipe, uint32_t factor, uint32_t preset, uint8_t *state,
+                              size_t state_length, uint8_t *request, size_t request_length);
+
+/* Takes the reply to the request that was handed out last. Answers the next request's length, or KHUYAPESH_DONE after SB's OK,
+ * or a stop at the step whose reply was wrong, each with the state after it; or Q4, then H1, with nothing changed, so that the
+ * same reply may be lent again. */
+uint32_t khuyapesh_drum_take(uint8_t *state, size_t state_length, const uint8_t *reply, size_t reply_length, uint8_t *request,
+                             size_t request_length);
 
 #ifdef __cplusplus
 }

@@ -1,6 +1,7 @@
 //! Lends the same bytes to the library and to this program, and compares every byte and number that
 //! comes back.
 
+use crate::drum::{Picks, STATE_LENGTH};
 use crate::fault::Fault;
 use crate::frame::LEAST_BUFFER;
 use crate::several::Report;
@@ -67,6 +68,10 @@ pub struct Counts {
     pub boards: u64,
     pub boards_answered: u64,
     pub boards_refused: u64,
+    pub drum_changes: u64,
+    pub drum_changes_ended: u64,
+    pub drum_changes_stopped: u64,
+    pub drum_changes_refused: u64,
     pub panel_events: u64,
     pub stored_forms: u64,
     pub host_side: u64,
@@ -82,6 +87,7 @@ impl Counts {
         self.calls
             + self.several_frames
             + self.boards
+            + self.drum_changes
             + self.panel_events
             + self.stored_forms
             + self.host_side
@@ -95,7 +101,8 @@ impl fmt::Display for Counts {
         write!(
             formatter,
             "calls {}, several frames {} (answered {}, stopped {}), \
-             board calls {} (answered {}, refused {}), panel events {}, \
+             board calls {} (answered {}, refused {}), \
+             drum change calls {} (ended {}, stopped {}, refused {}), panel events {}, \
              stored forms {}, host side {}, enumerated {}, \
              recordings {} (fits {}, refuted {}, refused {})",
             self.calls,
@@ -105,6 +112,10 @@ impl fmt::Display for Counts {
             self.boards,
             self.boards_answered,
             self.boards_refused,
+            self.drum_changes,
+            self.drum_changes_ended,
+            self.drum_changes_stopped,
+            self.drum_changes_refused,
             self.panel_events,
             self.stored_forms,
             self.host_side,
@@ -290,6 +301,86 @@ impl Comparison {
         )))
     }
 
+    /// Compares the begin of a drum change; answers the number, the state and the request buffer.
+    pub fn drum_begin(
+        &mut self,
+        picks: Picks,
+        state: &[u8],
+        request: &[u8],
+    ) -> Result<(u32, Vec<u8>, Vec<u8>), Difference> {
+        self.count(|counts| &mut counts.drum_changes);
+        let (answer, [state, request]) = both(
+            || format!("begin of a drum change, {picks:?}"),
+            &[],
+            [("state", state), ("request", request)],
+            |[state, request]| library::drum_begin(picks, state, request),
+            |[state, request]| interface::drum_begin(picks, state, request, self.fault),
+        )?;
+        self.count_drum_change(answer);
+        Ok((answer, state, request))
+    }
+
+    /// Compares how a drum change takes a reply; answers the number, the state and the request buffer.
+    pub fn drum_take(
+        &mut self,
+        state: &[u8],
+        reply: &[u8],
+        request: &[u8],
+    ) -> Result<(u32, Vec<u8>, Vec<u8>), Difference> {
+        self.count(|counts| &mut counts.drum_changes);
+        let (answer, [state, request]) = both(
+            || "reply in a drum change".to_string(),
+            &[("reply", reply)],
+            [("state", state), ("request", request)],
+            |[state, request]| library::drum_take(state, reply, request),
+            |[state, request]| interface::drum_take(state, reply, request, self.fault),
+        )?;
+        self.count_drum_change(answer);
+        Ok((answer, state, request))
+    }
+
+    fn count_drum_change(&mut self, answer: u32) {
+        if !self.enumerating {
+            match answer {
+                0 => self.counts.drum_changes_ended += 1,
+                1..=99 => {}
+                700.. => self.counts.drum_changes_stopped += 1,
+                _ => self.counts.drum_changes_refused += 1,
+            }
+        }
+    }
+
+    /// Lends each request of a drum change to a call, and the reply to the change: it has to come to
+    /// the answer and the stored record that are expected.
+    pub fn drum_change_and_calls(
+        &mut self,
+        picks: Picks,
+        stored: &[u8],
+        expected: (u32, &[u8]),
+    ) -> Result<(), Difference> {
+        let room = [0; LEAST_BUFFER];
+        let mut record = stored.to_vec();
+        let (mut answer, mut state, mut request) =
+            self.drum_begin(picks, &[0; STATE_LENGTH], &room)?;
+        while (1..100).contains(&answer) {
+            let asked = &request[..answer as usize];
+            let (replied, after, laid) = self.call(0, &record, asked, &room)?;
+            let reply = reply_laid(replied, &laid);
+            (answer, state, request) = self.drum_take(&state, reply, &room)?;
+            record = after;
+        }
+        if (answer, &record[..]) == expected {
+            return Ok(());
+        }
+        Err(Difference(format!(
+            "drum change and calls, {picks:?}\n  stored {}\n  expected {}: {}\n  came to {answer}: {}\n",
+            hexadecimal(stored),
+            expected.0,
+            hexadecimal(expected.1),
+            hexadecimal(&record)
+        )))
+    }
+
     /// Compares one panel event; answers the stored record after it.
     pub fn panel(&mut self, event: u8, number: u16, stored: &[u8]) -> Result<Vec<u8>, Difference> {
         self.count(|counts| &mut counts.panel_events);
@@ -397,6 +488,12 @@ impl Comparison {
         }
         Ok(first.0 == 0)
     }
+}
+
+/// The reply that a call laid at the start of the reply buffer; empty, if it was silent.
+pub fn reply_laid(answer: u32, buffer: &[u8]) -> &[u8] {
+    let length = if answer < 100 { answer as usize } else { 0 };
+    &buffer[..length]
 }
 
 fn no_round_trip(kind: u8, text: &[u8], frame: &[u8]) -> Difference {

@@ -119,6 +119,22 @@ faults! {
     RestCutOff "board: a length that is no multiple cut down to whole records",
     LastBadTold "board: the last bad record's number told",
 
+    // A drum change
+    BatchAfterFactorAlone "drum: SB given after PV alone",
+    ShortFactorWritten "drum: PC's number without leading zeros",
+    ShortPresetSet "drum: SB's number without leading zeros",
+    ShownFactorUnread "drum: the number that PV shows not looked at",
+    ShownRecipeUnread "drum: the recipe that RC shows not looked at",
+    RefusalPassed "drum: going on after a NO",
+    WrongCheckTaken "drum: a reply with a wrong check taken",
+    WrongStepNamed "drum: a stop at RC named as one at PV",
+    FactorBeforeRecipe "drum: Q2 tested before Q1",
+    ZeroPresetTaken "drum: a preset of 0 taken",
+    HeldFactorUntested "drum: the held factor not tested",
+    RefusedStateStopped "drum: Q4 stops a change whose picks are out of range",
+    RoomBeforeState "drum: H1 tested before Q4",
+    EndWithoutRoom "drum: H1 not tested where no further request is due",
+
     // Panel
     PulsesPastPreset "pulses end a batch at > instead of >=",
     PulsesWithoutModulo "raw grows without the modulo",

@@ -139,7 +139,7 @@ pub fn read(kind: Kind, frame: &[u8], out: &mut [u8], fault: Fault) -> Result<us
     Ok(text.len())
 }
 
-/// The minicomputer or terminal frame of a text of any length, for tests and generated inputs.
+/// The minicomputer or terminal frame of a text of any length.
 pub fn framed(kind: Kind, text: &[u8]) -> Vec<u8> {
     let mut frame = vec![0; 1 + text.len() + kind.trailer()];
     lay(kind, text, &mut frame);

@@ -3,6 +3,7 @@
 
 use crate::board;
 use crate::controller::{self, Outcome};
+use crate::drum::{self, Answer, Picks};
 use crate::fault::Fault;
 use crate::frame::{self, HostRefusal, Kind};
 use crate::judge::{self, Judgement};
@@ -136,6 +137,24 @@ pub fn board(kind: u8, stored: &mut [u8], request: &[u8], reply: &mut [u8], faul
             length as u32
         }
     }
+}
+
+fn drum_answer(answer: Answer) -> u32 {
+    match answer {
+        Answer::Request(length) => length as u32,
+        Answer::Ended => 0,
+        Answer::ShortBuffer => 401,
+        Answer::Refused(number) => 600 + u32::from(number),
+        Answer::Stopped(step) => 700 + step as u32,
+    }
+}
+
+pub fn drum_begin(picks: Picks, state: &mut [u8], request: &mut [u8], fault: Fault) -> u32 {
+    drum_answer(drum::begin(picks, state, request, fault))
+}
+
+pub fn drum_take(state: &mut [u8], reply: &[u8], request: &mut [u8], fault: Fault) -> u32 {
+    drum_answer(drum::take(state, reply, request, fault))
 }
 
 pub fn panel(event: u8, number: u16, stored: &mut [u8], fault: Fault) -> u32 {

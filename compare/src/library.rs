@@ -6,6 +6,7 @@
 mod declared {
     #![allow(unsafe_code)]
 
+    use crate::drum::Picks;
     use crate::several::Report;
 
     extern "C" {
@@ -37,6 +38,24 @@ mod declared {
             request_length: usize,
             reply: *mut u8,
             reply_length: usize,
+        ) -> u32;
+        fn khuyapesh_drum_begin(
+            address: u8,
+            recipe: u8,
+            factor: u32,
+            preset: u32,
+            state: *mut u8,
+            state_length: usize,
+            request: *mut u8,
+            request_length: usize,
+        ) -> u32;
+        fn khuyapesh_drum_take(
+            state: *mut u8,
+            state_length: usize,
+            reply: *const u8,
+            reply_length: usize,
+            request: *mut u8,
+            request_length: usize,
         ) -> u32;
         fn khuyapesh_panel(event: u8, number: u16, stored: *mut u8, stored_length: usize) -> u32;
         fn khuyapesh_stored(
@@ -123,6 +142,36 @@ mod declared {
         }
     }
 
+    pub fn drum_begin(picks: Picks, state: &mut [u8], request: &mut [u8]) -> u32 {
+        // SAFETY: pointers and lengths of live slices that do not overlap.
+        unsafe {
+            khuyapesh_drum_begin(
+                picks.address,
+                picks.recipe,
+                picks.factor,
+                picks.preset,
+                state.as_mut_ptr(),
+                state.len(),
+                request.as_mut_ptr(),
+                request.len(),
+            )
+        }
+    }
+
+    pub fn drum_take(state: &mut [u8], reply: &[u8], request: &mut [u8]) -> u32 {
+        // SAFETY: pointers and lengths of live slices; those that are written overlap no other.
+        unsafe {
+            khuyapesh_drum_take(
+                state.as_mut_ptr(),
+                state.len(),
+                reply.as_ptr(),
+                reply.len(),
+                request.as_mut_ptr(),
+                request.len(),
+            )
+        }
+    }
+
     pub fn panel(event: u8, number: u16, stored: &mut [u8]) -> u32 {
         // SAFETY: pointer and length of a live slice.
         unsafe { khuyapesh_panel(event, number, stored.as_mut_ptr(), stored.len()) }
@@ -163,10 +212,13 @@ mod declared {
 }
 
 #[cfg(not(feature = "self_test"))]
-pub use declared::{board, build, call, judge, panel, read, several, stored};
+pub use declared::{
+    board, build, call, drum_begin, drum_take, judge, panel, read, several, stored,
+};
 
 #[cfg(feature = "self_test")]
 mod stand_in {
+    use crate::drum::Picks;
     use crate::fault::Fault;
     use crate::interface;
     use crate::several::Report;
@@ -181,6 +233,14 @@ mod stand_in {
 
     pub fn board(kind: u8, stored: &mut [u8], request: &[u8], reply: &mut [u8]) -> u32 {
         interface::board(kind, stored, request, reply, Fault::None)
+    }
+
+    pub fn drum_begin(picks: Picks, state: &mut [u8], request: &mut [u8]) -> u32 {
+        interface::drum_begin(picks, state, request, Fault::None)
+    }
+
+    pub fn drum_take(state: &mut [u8], reply: &[u8], request: &mut [u8]) -> u32 {
+        interface::drum_take(state, reply, request, Fault::None)
     }
 
     pub fn panel(event: u8, number: u16, stored: &mut [u8]) -> u32 {
@@ -205,4 +265,6 @@ mod stand_in {
 }
 
 #[cfg(feature = "self_test")]
-pub use stand_in::{board, build, call, judge, panel, read, several, stored};
+pub use stand_in::{
+    board, build, call, drum_begin, drum_take, judge, panel, read, several, stored,
+};

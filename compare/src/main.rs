@@ -8,6 +8,7 @@ mod board;
 mod command;
 mod comparison;
 mod controller;
+mod drum;
 mod enumeration;
 mod fault;
 mod frame;

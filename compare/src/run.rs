@@ -1,16 +1,22 @@
 //! The comparison run: random inputs in rounds, then the enumeration.
 
-use crate::comparison::{Comparison, Counts, Difference};
+use crate::comparison::{reply_laid, Comparison, Counts, Difference};
+use crate::drum::{Step, STEP};
 use crate::enumeration;
 use crate::fault::Fault;
 use crate::frame::{self, Kind};
-use crate::generate::{boards, host, recordings, records, requests, stored_forms, streams};
+use crate::generate::{
+    boards, drum_changes, host, recordings, records, requests, stored_forms, streams,
+};
 use crate::random::Random;
 use crate::record::Record;
 use crate::stored;
 use std::time::{Duration, Instant};
 
 const PROGRESS_INTERVAL: Duration = Duration::from_secs(10);
+
+/// The answer by H1.
+const SHORT_BUFFER: u32 = 401;
 
 #[derive(Clone, Copy)]
 pub struct Amounts {
@@ -52,11 +58,13 @@ fn random_rounds(
         up_to(round + 1) - up_to(round)
     };
     let mut record = any_record(&mut random);
-    // Numbers of their own: all else that a seed gives does not hang on the streams or the boards.
+    // Numbers of their own: all else that a seed gives does not hang on the streams, the boards or the
+    // drum changes.
     let mut random_of_streams = Random::new(!amounts.seed);
     let mut record_of_streams = any_record(&mut random_of_streams);
     let mut random_of_boards = Random::new(amounts.seed ^ 1 << 63);
     let mut board = boards::board(&mut random_of_boards);
+    let mut random_of_drum_changes = Random::new(amounts.seed ^ 1 << 62);
     let mut last_progress = Instant::now();
     for round in 0..rounds {
         for _ in 0..share(amounts.calls, round) {
@@ -78,6 +86,9 @@ fn random_rounds(
         }
         for _ in 0..share(amounts.calls / 10, round) {
             board = one_board(comparison, &mut random_of_boards, board)?;
+        }
+        for _ in 0..share(amounts.calls / 10, round) {
+            one_drum_change(comparison, &mut random_of_drum_changes)?;
         }
         if progress && last_progress.elapsed() >= PROGRESS_INTERVAL {
             eprintln!("round {} of {rounds}: {}", round + 1, comparison.counts);
@@ -213,6 +224,51 @@ fn one_board(
     }
     let (_, after, _) = comparison.board(kind_number, &board, &request, &reply)?;
     Ok(after)
+}
+
+/// One drum change against a controller, until it ends or stops, and a reply after that; now and then
+/// the reply is not the controller's, or something else acts on it.
+fn one_drum_change(comparison: &mut Comparison, random: &mut Random) -> Result<(), Difference> {
+    let held = drum_changes::controller(random);
+    let picks = drum_changes::picks(random, &held);
+    let mut record = stored::form(&held).to_vec();
+    let room = drum_changes::state_room(random);
+    let (mut answer, mut state, mut request) =
+        comparison.drum_begin(picks, &room, &out_buffer(random, 64))?;
+    let mut reply = vec![];
+    while (1..100).contains(&answer) {
+        if random.percent(3) {
+            record = one_event(comparison, random, record)?;
+        }
+        let asked = &request[..answer as usize];
+        let (replied, after, laid) = comparison.call(0, &record, asked, &random.bytes(64))?;
+        record = after;
+        let step = Step::ALL[usize::from(state[STEP]) - 1];
+        reply = drum_changes::reply(random, picks, step, reply_laid(replied, &laid));
+        (answer, state, request) = one_reply(comparison, random, &state, &reply)?;
+    }
+    one_reply(comparison, random, &state, &reply)?;
+    Ok(())
+}
+
+/// Lends a reply to a held state until there is room for the next request, now and then to a spoiled
+/// copy of the state before.
+fn one_reply(
+    comparison: &mut Comparison,
+    random: &mut Random,
+    state: &[u8],
+    reply: &[u8],
+) -> Result<(u32, Vec<u8>, Vec<u8>), Difference> {
+    if random.percent(20) {
+        let spoiled = drum_changes::spoiled(random, state);
+        comparison.drum_take(&spoiled, reply, &out_buffer(random, 64))?;
+    }
+    loop {
+        let taken = comparison.drum_take(state, reply, &out_buffer(random, 64))?;
+        if taken.0 != SHORT_BUFFER {
+            return Ok(taken);
+        }
+    }
 }
 
 fn host_side(comparison: &mut Comparison, random: &mut Random) -> Result<(), Difference> {

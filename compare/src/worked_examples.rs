@@ -3,6 +3,7 @@
 
 use crate::alarms;
 use crate::controller::{self, Outcome};
+use crate::drum::{self, Answer, Picks, Step};
 use crate::enumeration::plain_record;
 use crate::fault::Fault;
 use crate::frame::{framed, Kind};
@@ -588,6 +589,102 @@ fn several_frames_to_a_record_that_is_not_valid() {
     let (mut record, mut reply) = (invalid, [0xEE; 64]);
     let report = several::answer_all(&mut record, &bytes(EQ), &mut reply, Fault::None);
     assert_eq!((report, record, reply), (None, invalid, [0xEE; 64]));
+}
+
+/// The foreman at unit 7: recipe 3, factor 10150 (27A6), preset 500 (1F4). Each request with its check,
+/// and the right reply with its check.
+const PICKS: Picks = Picks {
+    address: 7,
+    recipe: 3,
+    factor: 10_150,
+    preset: 500,
+};
+const DRUM_CHANGE: [(&str, u8, &str, u8); 5] = [
+    ("07NR 03", 0x3B, "07OK", 0x00),
+    ("07PC 032 00010150", 0x23, "07OK", 0x00),
+    ("07PV 032", 0x13, "07PV 032 00010150", 0x36),
+    ("07RC", 0x15, "07RC 03 00010150", 0x13),
+    ("07SB 000500", 0x30, "07OK", 0x00),
+];
+
+/// The state held while the reply of a step is awaited, after the end and after a stop.
+fn held(step: u8) -> [u8; 8] {
+    [0x07, 0x03, 0x27, 0xA6, 0x00, 0x01, 0xF4, step]
+}
+
+/// The frame of a text, with its check written out.
+fn checked(text: &str, check: u8) -> Vec<u8> {
+    let frame = [&[0x02], text.as_bytes(), &[0x03, check, 0x7F]].concat();
+    assert_eq!(frame, framed(Kind::Minicomputer, text.as_bytes()));
+    frame
+}
+
+/// Takes a reply; answers that, the state then and the request that was laid, behind which nothing
+/// may be.
+fn take(mut state: [u8; 8], reply: &[u8]) -> (Answer, [u8; 8], Vec<u8>) {
+    let mut request = [0xEE; 70];
+    let answer = drum::take(&mut state, reply, &mut request, Fault::None);
+    (answer, state, laid(answer, &request))
+}
+
+fn laid(answer: Answer, request: &[u8]) -> Vec<u8> {
+    let length = match answer {
+        Answer::Request(length) => length,
+        _ => 0,
+    };
+    assert!(request[length..].iter().all(|&byte| byte == 0xEE));
+    request[..length].to_vec()
+}
+
+#[test]
+fn drum_change() {
+    let unit = Record {
+        address: 7,
+        ..bench_record()
+    };
+    let mut record = unit;
+    let (mut state, mut lent) = ([0xEE; 8], [0xEE; 70]);
+    let mut answer = drum::begin(PICKS, &mut state, &mut lent, Fault::None);
+    let mut given = laid(answer, &lent);
+    for ((text, check, reply_text, reply_check), step) in DRUM_CHANGE.into_iter().zip(1..) {
+        let (request, reply) = (checked(text, check), checked(reply_text, reply_check));
+        assert_eq!(answer, Answer::Request(request.len()), "{text}");
+        assert_eq!((state, &given), (held(step), &request), "{text}");
+        let (replied, after) = call(record, &request);
+        assert_eq!(replied, reply, "{text}");
+        record = after;
+        (answer, state, given) = take(state, &reply);
+    }
+    assert_eq!((answer, state, given), (Answer::Ended, held(6), vec![]));
+    let mut set = Record {
+        phase: Phase::Set,
+        preset: 500,
+        changed: true,
+        batch_reset: true,
+        number: 1,
+        ..unit
+    };
+    set.parameters[factor_place(3)].value = 10_150;
+    assert_eq!(record, set);
+    // Nothing is awaited after the end.
+    let refused = (Answer::Refused(4), held(6), vec![]);
+    assert_eq!(take(held(6), &checked("07OK", 0x00)), refused);
+}
+
+/// The controller of the forty discs says OK to the new factor and goes on showing the old one.
+#[test]
+fn drum_change_stopped_by_the_old_factor() {
+    let old = checked("07PV 032 00010012", 0x31);
+    let stopped = (Answer::Stopped(Step::ReadFactor), held(13), vec![]);
+    assert_eq!(take(held(3), &old), stopped);
+    // No reply brings it to SB any more.
+    for (_, _, text, check) in DRUM_CHANGE {
+        let refused = (Answer::Refused(4), held(13), vec![]);
+        assert_eq!(take(held(13), &checked(text, check)), refused);
+    }
+    let shown = checked("07RC 03 00010012", 0x14);
+    let stopped = (Answer::Stopped(Step::ReadRecipe), held(14), vec![]);
+    assert_eq!(take(held(4), &shown), stopped);
 }
 
 /// What a listed parameter shows, and that a write changes it and no other.

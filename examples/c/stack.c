@@ -14,8 +14,22 @@ static unsigned char stack[4 * KHUYAPESH_BOARD_STACK];
 static ucontext_t caller, callee;
 static int expected = 1;
 
-/* Every function but khuyapesh_board, and requests that are read, written and refused, their replies recorded and judged;
- * then the same requests end to end. */
+/* A drum change of this record, to its end. */
+static void change_drum(uint8_t *stored)
+{
+    static uint8_t state[KHUYAPESH_DRUM_STATE], request[KHUYAPESH_FRAME_ROOM], reply[KHUYAPESH_FRAME_ROOM];
+    uint32_t answer = khuyapesh_drum_begin(1, 3, 10150, 500, state, sizeof state, request, sizeof request);
+
+    while (answer != KHUYAPESH_DONE && !khuyapesh_is_refusal(answer)) {
+        uint32_t got = khuyapesh_call(0, stored, KHUYAPESH_STORED_LENGTH, request, answer, reply, sizeof reply);
+
+        answer = khuyapesh_drum_take(state, sizeof state, reply, got, request, sizeof request);
+    }
+    expected &= answer == KHUYAPESH_DONE;
+}
+
+/* Every function but khuyapesh_board: a drum change; requests that are read, written and refused, their replies recorded and
+ * judged; then the same requests end to end. */
 static void work(void)
 {
     static const char *const texts[] = {"01EQ", "01RS", "01RC", "01PC 032 10150", "01XC 011 0", "01SB 500", "01SA", "01QQ",
@@ -25,6 +39,8 @@ static void work(void)
     static uint8_t recording[2048], stream[1024], replies[1024];
     size_t recorded = 5, streamed = 0, place, count, index, taken, answered, written;
 
+    khuyapesh_stored(stored, 0, copy, sizeof copy);
+    change_drum(copy);
     khuyapesh_stored(copy, 0, stored, sizeof stored);
     for (index = 0; index < sizeof texts / sizeof *texts; index++) {
         uint32_t sent = khuyapesh_build(0, (const uint8_t *)texts[index], strlen(texts[index]), request, sizeof request);

@@ -1,12 +1,13 @@
 //! What is enumerated and not sampled: every refusal against every phase, keypad, access and level,
 //! every combination of damages to a frame, every byte of a stored form, every parameter code, every
 //! alarm, every parameter rewritten, every pair of telling exchanges, every cut of a stream, every
-//! place on a board.
+//! place on a board, every damage to a reply in a drum change.
 
 mod alarms;
 mod board;
 mod calls;
 mod changed;
+mod drum;
 mod frames;
 mod parameters;
 mod recordings;
@@ -39,7 +40,8 @@ pub fn enumerate(comparison: &mut Comparison) -> Result<(), Difference> {
     alarms::alarm_calls(comparison)?;
     alarms::alarm_events(comparison)?;
     alarms::stored_alarms(comparison)?;
-    board::boards(comparison)
+    board::boards(comparison)?;
+    drum::drum_changes(comparison)
 }
 
 /// The bytes of a lent buffer, told apart so that a moved one is seen.

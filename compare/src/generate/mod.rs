@@ -1,6 +1,7 @@
 //! Random inputs, from plausible ones to noise.
 
 pub mod boards;
+pub mod drum_changes;
 pub mod host;
 pub mod recordings;
 pub mod records;

@@ -174,7 +174,7 @@ pub fn text(random: &mut Random, record: &Record, command: Commands) -> Vec<u8> 
 }
 
 /// Damages a frame once.
-fn damage(random: &mut Random, kind: Kind, frame: &mut Vec<u8>) {
+pub fn damage(random: &mut Random, kind: Kind, frame: &mut Vec<u8>) {
     let length = frame.len();
     let place = if length == 0 { 0 } else { random.below(length) };
     match random.below(10) {

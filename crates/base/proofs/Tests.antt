@@ -13,6 +13,11 @@ use lib.Seq.{drop-cons}
 use borrow.Author.Tests.{le-leb, lt-leb, leb-true, ltb-true, ltb-false, eq-eqb, ne-eqb, not-true}
 use Rattle.base.specs.Test.{between, allBetween, allDistinct, member}
 
+-- facts of a whole list, one behind the other
+infixr 20 _also_
+pub _also_ : {A B : Type 0} → A → B → A × B
+a also b = (a, b)
+
 -- by a test that holds or not
 pub by-test : {A : Type 0} (b : Bool) → (b ≡ true → A) → (b ≡ false → A) → A
 by-test true f g = f refl

@@ -10,6 +10,7 @@ use lib.Dec.{eqb, leb}
 use lib.ListN.{length, getD}
 use borrow.Author.Tests.{eqb-true, eq-eqb}
 use Rattle.base.specs.Test.{unless, between, allDistinct, member}
+use Rattle.base.proofs.FirstFailing.{FirstFailing, NoneFails, failing, failing-exactly, none-exactly}
 use Rattle.base.proofs.Tests.{by-test, and-left, and-right, distinct-place}
 use Rattle.state.specs.declared.Record.{Record}
 use Rattle.state.specs.Valid.{valid}
@@ -17,7 +18,7 @@ use Rattle.frame.specs.declared.Kind.{Kind}
 use Rattle.frame.specs.Frame.{allText, namesUnit, textIn, withinLimits, marksRight, checkRight}
 use Rattle.frame.specs.Answer.{locateOf, addressOf}
 use Rattle.controller.specs.Call.{callOf}
-use Rattle.controller.proofs.Exactly.{FirstFailing, NoneFails, failing, failing-exactly, none-exactly, silence-failing}
+use Rattle.controller.proofs.Exactly.{silence-failing}
 use Rattle.board.specs.Board.{allValid, addresses, asked, dispatched, boardOf}
 
 -- "S9 empty list or over 16, S10 a record not valid, S11 an address twice; then S2 to S8": the numbers in this order, behind a 0 for a

@@ -15,7 +15,7 @@ use Rattle.base.specs.Text.{text}
 use Rattle.state.specs.Parameter.{parameterCount, rangeAt}
 use Rattle.state.specs.Field.{reset, changed, recipe, preset, level, fieldRange, off}
 use Rattle.state.specs.Valid.{within}
-use Rattle.base.proofs.Tests.{by-test, and-left, and-right, neither, between-yes, between-high}
+use Rattle.base.proofs.Tests.{_also_, by-test, and-left, and-right, neither, between-yes, between-high}
 use Rattle.text.specs.Word.{space, valueOf, allDigits, equal}
 use Rattle.command.specs.Commands.{PV, XV, PC, XC, NR, SB, codeIn, Command, Arguments, aNumber, formed, digitsBetween, commands, rowOf, _≔_}
 use Rattle.command.specs.Refusals.{Row, byText, byArguments, byField, rowNumber, refusals, of, argumentsFor, unknownCode, notServed, malformed, listed, unknownParameter, unknownRecipe, outOfRange}
@@ -152,10 +152,6 @@ asked-sound t =
 flag-fits : (b : Bool) → Fitting ((pick b reset changed ≔ off) ∷ [])
 flag-fits true = ((omega arith, omega arith, refl), tt)
 flag-fits false = ((omega arith, omega arith, refl), tt)
-
-infixr 20 _also_
-pub _also_ : {A B : Type 0} → A → B → A × B
-a also b = (a, b)
 
 pub effect-fits : (c : ℕ) (x : Arguments) → Sound c x → Fitting (rowOf c commands .effect x)
 unfolding rowOf

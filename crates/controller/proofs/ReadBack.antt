@@ -1,6 +1,6 @@
--- What each read request shows of a valid record, and what AR does to it while the keypad is off. `Theorems.antt` puts a write before
--- a read. Assumes nothing.
-use Prim.Native.Nat.{ℕ, _+_, _*_, _/_, _%_, _≤_, _<_}
+-- What each read request shows of a valid record, what AR does to it while the keypad is off, and what NR, PC and SB do to it while it is
+-- Idle too. `Theorems.antt` puts a write before a read. Assumes nothing.
+use Prim.Native.Nat.{ℕ, _+_, _*_, _/_, _%_, _^_, _≤_, _<_}
 use mathlib.Core.Bool.{true}
 use mathlib.Core.Path.{_≡_, refl, sym, ap, subst, _∙_}
 use mathlib.Core.List.{List, [], _∷_, _++_}
@@ -8,16 +8,16 @@ use mathlib.Core.Logic.{⊎-elim}
 use native.Mathlib.Omega.{arith}
 use lib.Dec.{eqb}
 use lib.ListN.{length}
-use borrow.Author.Tests.{le-leb, eq-eqb, ne-eqb, lt-ltb}
+use borrow.Author.Tests.{le-leb, eq-eqb, ne-eqb, lt-ltb, le-ltb}
 use Rattle.base.specs.Text.{text}
 use Rattle.base.specs.Test.{pick, allBetween}
 use Rattle.state.specs.declared.Record.{Record}
 use Rattle.state.specs.declared.Place.the-variants.{At}
-use Rattle.state.specs.Parameter.{recipes, parameterCount, placeOf}
-use Rattle.state.specs.Field.{Field, address, access, keypad, recipe, raw, number, alarms, value, level, get, position, off}
-use Rattle.state.specs.Valid.{valid}
-use Rattle.state.specs.Event.{alarmsReset}
-use Rattle.base.proofs.Tests.{between-yes, below-or-not}
+use Rattle.state.specs.Parameter.{recipes, parameterCount, placeOf, rangeAt}
+use Rattle.state.specs.Field.{Field, address, access, phase, keypad, changed, recipe, preset, raw, number, alarms, value, level, get, put, position, fieldRange, off}
+use Rattle.state.specs.Valid.{within, valid}
+use Rattle.state.specs.Event.{idle, batchSet, alarmsReset, replaced}
+use Rattle.base.proofs.Tests.{between-yes, between-high, below-or-not}
 use Rattle.state.proofs.Validity.{valid-tell}
 use Rattle.state.proofs.Parameters.{code-has-place, code-given-recipe, code-given-system}
 use Rattle.frame.specs.declared.Kind.{Kind}
@@ -27,14 +27,14 @@ use Rattle.frame.proofs.Laws.{found}
 use Rattle.frame.proofs.RoundTrip.{frame-located}
 use Rattle.text.specs.Word.{space, digits, valueOf, equal}
 use Rattle.command.specs.Status.{statusCharacters, alarmCharacters, statusCodes, codesOn}
-use Rattle.command.specs.Commands.{EQ, RS, TN, RR, RC, RT, PV, XV, EA, AR, codeIn, formed, digitsBetween, Arguments, none, aPlace, aWord, placeNumber, placeFor, parameterLabel, factorPlace, printed, Change, applied, commands, rowOf}
+use Rattle.command.specs.Commands.{EQ, RS, TN, RR, RC, RT, PV, XV, PC, NR, SB, EA, AR, codeIn, formed, digitsBetween, Arguments, none, aPlace, aWord, placeNumber, placeFor, parameterLabel, factorPlace, printed, Change, applied, commands, rowOf}
 use Rattle.command.specs.Refusals.{refusals}
 use Rattle.command.specs.Answer.{Verdict, accepted, replyText, recordAfter}
 use Rattle.command.specs.Request.{Asked, asked, firstByText, firstByArguments, askedWith, askedFor, askedIn, Guard, guardsIn, guarded, Answered, shows, servedBy, servedOf}
+use Rattle.text.proofs.Printable.{Text, text-wider, text-joined, text-word, text-digits, text-labelled}
 use Rattle.text.proofs.Words.{value-digits, digits-all}
 use Rattle.command.proofs.Agree.{record-by-steps}
 use Rattle.reply.specs.Reply.{textFor}
-use Rattle.reply.proofs.Laws.{Text, text-wider, text-joined, text-word, text-digits, text-labelled}
 use Rattle.controller.specs.Call.{replied, callOf}
 use Rattle.controller.proofs.Steps.{text-by-steps}
 
@@ -46,7 +46,7 @@ code-small c i e =
     ⊎-elim (λ (q : i < 3 * recipes). omega (arith, h .1, code-given-recipe i q)) (λ (q : 3 * recipes ≤ i). omega (arith, h .1, code-given-system i q l))
     (below-or-not i (3 * recipes))
 
--- ---- the requests that ask, and AR
+-- ---- the requests that ask, and AR, PC, NR and SB; their numbers in full width
 module _ (n : ℕ) where
   plain-asked : (askedIn (digits 2 n ++ text "EQ") ≡ asked EQ none) × (askedIn (digits 2 n ++ text "RS") ≡ asked RS none)
       × (askedIn (digits 2 n ++ text "TN") ≡ asked TN none) × (askedIn (digits 2 n ++ text "RR") ≡ asked RR none)
@@ -66,6 +66,18 @@ module _ (n : ℕ) where
     parameter-asked : (askedIn (digits 2 n ++ (text "PV " ++ digits 3 p)) ≡ asked PV (aPlace i 0)) × (askedIn (digits 2 n ++ (text "XV " ++ digits 3 p)) ≡ asked XV (aPlace i 0))
     unfolding askedIn askedFor askedWith firstByText firstByArguments rowOf codeIn formed digitsBetween digits
     parameter-asked = let l = lt-ltb i parameterCount (code-has-place p i e .0) in (simp (digits-all 3 p, placed, l), simp (digits-all 3 p, placed, l))
+
+    value-asked : (v : ℕ) → v < 10 ^ 8 → within (rangeAt i) v ≡ true → askedIn (digits 2 n ++ (text "PC " ++ (digits 3 p ++ (space ∷ digits 8 v)))) ≡ asked PC (aPlace i v)
+    unfolding askedIn askedFor askedWith firstByText firstByArguments rowOf codeIn formed digitsBetween digits
+    value-asked v h w = simp (digits-all 3 p, digits-all 8 v, placed, value-digits 8 v h, lt-ltb i parameterCount (code-has-place p i e .0), w)
+
+  recipe-asked : (r : ℕ) → within (fieldRange recipe) r ≡ true → askedIn (digits 2 n ++ (text "NR " ++ digits 2 r)) ≡ asked NR (aPlace 0 r)
+  unfolding askedIn askedFor askedWith firstByText firstByArguments rowOf codeIn formed digitsBetween digits
+  recipe-asked r w = let h = between-high _ _ r w in simp (digits-all 2 r, value-digits 2 r (omega arith), w)
+
+  batch-asked : (v : ℕ) → 1 ≤ v → v ≤ fieldRange preset .high → askedIn (digits 2 n ++ (text "SB " ++ digits 6 v)) ≡ asked SB (aPlace 0 v)
+  unfolding askedIn askedFor askedWith firstByText firstByArguments rowOf codeIn formed digitsBetween digits
+  batch-asked v l h = simp (digits-all 6 v, value-digits 6 v (omega arith), ne-eqb v 0 (λ e. omega arith))
 
 -- ---- what is shown: "PV ppp vvvvvvvv", "XV ppp l", "RC rr vvvvvvvv"
 abbrev pub parameterShown : List ℕ → ℕ → ℕ → ℕ → List ℕ
@@ -171,6 +183,29 @@ module _ (k : Kind) (s : Record) (o : List ℕ) (v : valid s ≡ true) (room : 6
   pub reset-served : get keypad s ≡ off → LeavesAt k s o (get address s) (text "AR") (text "OK") (alarmsReset s)
   unfolding guardsIn guarded applied rowOf allBetween
   reset-served h = served-so 0x41 0x52 [] AR none refl refl (two 0x41 0x52 refl) (plain-asked (s .address) .6) (simp h)
+
+  -- NR, PC and SB
+  module _ (in-idle : get phase s ≡ idle) (keypad-off : get keypad s ≡ off) where
+    pub recipe-served : (r : ℕ) → within (fieldRange recipe) r ≡ true → LeavesAt k s o (get address s) (text "NR " ++ digits 2 r) (text "OK") (put recipe r s)
+    unfolding guardsIn guarded applied rowOf allBetween
+    recipe-served r w =
+        served-so 0x4e 0x52 (space ∷ digits 2 r) NR (aPlace 0 r) refl refl (text-wider _ _ 2 58 _ (omega arith) (omega arith) (text-labelled (text "NR ") 2 r refl))
+        (recipe-asked (s .address) r w) (simp (keypad-off, in-idle))
+
+    pub value-served : (p i v : ℕ) → placeOf p ≡ At i → v < 10 ^ 8 → within (rangeAt i) v ≡ true → get (level i) s ≤ get access s
+        → LeavesAt k s o (get address s) (text "PC " ++ (digits 3 p ++ (space ∷ digits 8 v))) (text "OK") (replaced (value i) v changed s)
+    unfolding guardsIn guarded applied rowOf allBetween
+    value-served p i v e h w l =
+        served-so 0x50 0x43 (space ∷ (digits 3 p ++ (space ∷ digits 8 v))) PC (aPlace i v) refl refl
+        (text-wider _ _ 2 58 _ (omega arith) (omega arith)
+        (text-joined _ _ _ _ (text "PC " ++ digits 3 p) (space ∷ digits 8 v) (text-labelled (text "PC ") 3 p refl) (text-labelled (space ∷ []) 8 v refl)))
+        (value-asked (s .address) p i e v h w) (simp (keypad-off, le-ltb (get access s) (get (level i) s) l, in-idle))
+
+    pub batch-served : (v : ℕ) → 1 ≤ v → v ≤ fieldRange preset .high → LeavesAt k s o (get address s) (text "SB " ++ digits 6 v) (text "OK") (batchSet v s)
+    unfolding guardsIn guarded applied rowOf allBetween batchSet
+    batch-served v l h =
+        served-so 0x53 0x42 (space ∷ digits 6 v) SB (aPlace 0 v) refl refl (text-wider _ _ 2 58 _ (omega arith) (omega arith) (text-labelled (text "SB ") 6 v refl))
+        (batch-asked (s .address) v l h) (simp (keypad-off, in-idle))
 
   pub raw-read : Answers (text "RT R") (text "RT R " ++ digits 8 (get raw s))
   unfolding guardsIn rowOf allBetween

@@ -29,6 +29,7 @@ use Rattle.base.specs.Lists.{over}
 use Rattle.frame.proofs.Laws.{frame-length, framed-built}
 use Rattle.frame.proofs.RoundTrip.{read-built}
 use Rattle.text.specs.Word.{space, digits, valueOf}
+use Rattle.text.proofs.Printable.{Text}
 use Rattle.command.specs.Status.{Bit, characters, weightIn, statusCharacters, alarmCharacters, Code, statusCodes, codesOn}
 use Rattle.command.specs.Commands.{PV, XV, PC, XC, NR, SB, AR, codeIn, Arguments, placeNumber, placeFor, applied, commands, rowOf, factorPlace, Change, becomes, _≔_, nextBatch, resetAlarms, newValue}
 use Rattle.command.specs.Refusals.{refusals, rowNumber, applies, of, argumentsFor}
@@ -39,7 +40,7 @@ use Rattle.base.proofs.Tests.{by-test}
 use Rattle.command.proofs.Tables.{FirstAt, noRow, first-goes-out, by-first, none-applies, accepted-if-none, assigned, given, numberAfter, FitsRecord, Fitting, applied-valid, put-reads, applied-reads}
 use Rattle.command.proofs.Fits.{Sound, SoundAsked, asked-sound, accepted-fits}
 use Rattle.command.proofs.Agree.{accepted-asked}
-use Rattle.reply.proofs.Laws.{Text, longest, text-legal, served-answers}
+use Rattle.reply.proofs.Laws.{longest, text-legal, served-answers}
 use Rattle.controller.specs.Call.{Outcome, silent, replied, callOf}
 use Rattle.controller.proofs.Steps.{text-by-steps}
 use Rattle.controller.proofs.ReadBack.{parameterShown, composed, AnswersAt, composition-same, status-read, codes-read, number-read, recipe-read, composition-read, raw-read, alarms-read, value-read, level-read, held-there, held-elsewhere}

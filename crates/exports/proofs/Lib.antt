@@ -2,3 +2,4 @@ pub mod Steps
 pub mod Theorems
 pub mod Boards
 pub mod Judged
+pub mod Drums

@@ -25,6 +25,8 @@ use Rattle.storedboard.specs.declared.Answer as storedboard
 use Rattle.storedboard.specs.declared.Answer.the-variants as answer
 use Rattle.board.specs.Board.{answerLength}
 use Rattle.storedboard.specs.StoredBoard.{Left, leftAs, storedBoardOf}
+use Rattle.drum.specs.Drum.{Told, Q, short, request, end, stop}
+use Rattle.drumstate.specs.State as drumstate
 use Rattle.recording.specs.Replay.{fits, refuted}
 use Rattle.recording.specs.Statement.{Judgement, judged, refused}
 use Rattle.exports.specs.declared.Numbers.{Numbers}
@@ -184,6 +186,19 @@ buildBytes kind t o = unless (isKind kind) (noSuch, o) (hostLeft (frame.buildOf 
 -- "the text's length; or 300, then 401, then 103 to 106"
 unfoldable pub readBytes : ℕ → List ℕ → List ℕ → ℕ × List ℕ
 readBytes kind f o = unless (isKind kind) (noSuch, o) (hostLeft (frame.readOf (kindOf kind) f o))
+
+-- ---- khuyapesh_drum_begin and khuyapesh_drum_take: the answer, the state and the request buffer
+
+-- "the next request's length"; "0 at the end; 600 + n for Qn ..; 700 + step for a wrong reply; 401 for a request buffer under 64 bytes"
+abbrev pub drumAnswer : Told → ℕ
+drumAnswer (Q n) = 600 + n
+drumAnswer short = 401
+drumAnswer (request n) = n
+drumAnswer end = 0
+drumAnswer (stop i) = 700 + i
+
+unfoldable pub drumLeft : drumstate.Left → ℕ × (List ℕ × List ℕ)
+drumLeft x = (drumAnswer (x .told), (x .state, x .buffer))
 
 -- ---- khuyapesh_judge: the answer, the place and the count
 -- "0 for `fits N`, with 0 in *place and N in *count; 1 for `refuted at I of N`, with I in *place and N in *count; 500 + n for

@@ -18,8 +18,11 @@ ghost use Rattle.stored.specs.Form.{K, refusalNumber, answerAs, storedLength};
 ghost use Rattle.frame.specs.Numbers.{silenceNumber, lengthIn, builtAs, readAs};
 ghost use Rattle.controller.specs.Call.{answerSilence, answerLength, callOf};
 ghost use Rattle.several.specs.Several.{severalOf};
+ghost use Rattle.drum.specs.Numbers.{toldAs};
+ghost use Rattle.drum.specs.Turns.{sizeTold};
+ghost use Rattle.drumstate.specs.State.{beginOf, takeOf};
 ghost use Rattle.judging.specs.Judge.{judgementOf};
-ghost use Rattle.exports.specs.Bytes.{silenceAnswer, storedAnswer, hostAnswer, kindOf, eventOf, openAnswer, openOf, callLeft, callBytes, severalNumbers, severalAs, severalLeft, severalBytes, heardAnswer, boardAnswer, answerLeft, Tellable, boardBytes, panelBytes, storedBytes, buildBytes, readBytes, judgeNumbers};
+ghost use Rattle.exports.specs.Bytes.{silenceAnswer, storedAnswer, hostAnswer, kindOf, eventOf, openAnswer, openOf, callLeft, callBytes, severalNumbers, severalAs, severalLeft, severalBytes, heardAnswer, boardAnswer, answerLeft, Tellable, boardBytes, panelBytes, storedBytes, buildBytes, readBytes, drumAnswer, drumLeft, judgeNumbers};
 
 // ---- the numbers that are answered
 
@@ -37,6 +40,11 @@ const HOST: u32 = 400;
 
 // Added to the number of a refusal of a recording.
 const RECORDING: u32 = 500;
+
+// Added to the number of a refusal of a drum change, and to the step at which one stopped.
+const DRUM: u32 = 600;
+
+const STOPPED: u32 = 700;
 
 // The highest numbers of a kind and of an event.
 const LAST_KIND: u8 = 1;
@@ -125,6 +133,19 @@ fn board_answer(answer: storedboard::Answer) -> u32
             board::Answer::Refused(why) => SILENT + base::wide(board::number_of(why)),
             board::Answer::Called(one) => call_answer(one),
         },
+    }
+}
+
+fn drum_answer(answer: drum::Answer) -> u32
+    requires { ⌜ sizeTold (toldAs answer) ≤ 64 ⌝ }
+    ensures { λ n. ⌜ n ≡ drumAnswer (toldAs answer) ⌝ }
+{
+    match answer {
+        drum::Answer::Refused(why) => DRUM + base::wide(drum::number_of(why)),
+        drum::Answer::ShortBuffer => HOST + 1,
+        drum::Answer::Request(n) => n as u32,
+        drum::Answer::Ended => 0,
+        drum::Answer::Stopped(step) => STOPPED + base::wide(step),
     }
 }
 
@@ -368,6 +389,33 @@ pub extern "C" fn khuyapesh_read(kind: u8, frame: &[u8], out: &mut [u8]) -> u32
     }
     text_answer(frame::read(kind_of(kind), frame, out))
 }
+
+// ---- the drum change
+
+// Begins a drum change.
+#[no_mangle]
+pub extern "C" fn khuyapesh_drum_begin(
+    address: u8,
+    recipe: u8,
+    factor: u32,
+    preset: u32,
+    state: &mut [u8],
+    request: &mut [u8],
+) -> u32
+    ensures { λ n. ⌜ (n, (now (state .exit), now (request .exit))) ≡ drumLeft (beginOf address recipe factor preset (now (state .entry)) (now (request .entry))) ⌝ }
+{
+    drum_answer(drumstate::begin(address, recipe, factor, preset, state, request))
+}
+
+// Takes a reply.
+#[no_mangle]
+pub extern "C" fn khuyapesh_drum_take(state: &mut [u8], reply: &[u8], request: &mut [u8]) -> u32
+    ensures { λ n. ⌜ (n, (now (state .exit), now (request .exit))) ≡ drumLeft (takeOf (now (state .entry)) (now (reply .entry)) (now (request .entry))) ⌝ }
+{
+    drum_answer(drumstate::take(state, reply, request))
+}
+
+// ---- the judge
 
 // Judges a recording.
 #[no_mangle]

@@ -6,6 +6,7 @@ use Prim.Native.String.{String}
 use mathlib.Core.Path.{_≡_, refl, subst}
 use mathlib.Core.List.{List, [], _∷_, _++_, map}
 use lib.ListN.{length}
+use Rattle.base.proofs.Tests.{_also_}
 use Rattle.command.specs.Bench.{bench}
 use Rattle.base.specs.Text.{text}
 use Rattle.controller.specs.Worked as controller
@@ -21,7 +22,6 @@ use Rattle.frame.specs.Frame.{withinLimits, marksRight, checkRight, xorFrom, te
 use Rattle.frame.specs.Answer.{addressOf, locateOf}
 use Rattle.text.specs.Word.{digits, widthIn, decimal, equal, valueFrom, numberFor}
 use Rattle.command.specs.Commands.{codeIn, formed, digitsBetween, rowOf}
-use Rattle.command.proofs.Fits.{_also_}
 use Rattle.command.specs.Request.{firstByText, firstByArguments, askedWith, askedFor, askedIn, guardsIn}
 use Rattle.knowledge.specs.Sets.{maskFrom, bit, flagCode}
 use Rattle.knowledge.specs.Knowledge.{codeAt, restricted, told, becoming, advanced, replacing, start}

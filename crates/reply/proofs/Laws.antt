@@ -2,16 +2,16 @@
 use mathlib.Core.Path.{_≡_, refl, ap, sym, _∙_}
 use mathlib.Core.List.{List, [], _∷_, _++_, append-assoc}
 use mathlib.Core.Bool.{Bool, true, false, not, _&&_, _||_, or-false}
-use Prim.Native.Nat.{ℕ, zero, suc, _+_, _*_, _/_, _%_, _≤_, _<_}
+use Prim.Native.Nat.{ℕ, _+_, _*_, _/_, _%_, _≤_, _<_}
 use native.Mathlib.Nat.{add-zero, zero-add}
 use native.Mathlib.Omega.{arith}
 use lib.Dec.{eqb}
 use lib.ListN.{length, length-append}
 use borrow.Author.Tests.{le-leb, lt-leb, eqb-true}
 use Rattle.base.specs.Text.{text}
-use Rattle.base.specs.Test.{pick, between, member, allBetween}
+use Rattle.base.specs.Test.{pick, member, allBetween}
 use Rattle.base.specs.Lists.{over}
-use Rattle.base.proofs.Tests.{and-yes, and-left, and-right, between-yes}
+use Rattle.base.proofs.Tests.{and-left, and-right}
 use Rattle.base.proofs.Lists.{over-at-start}
 use Rattle.state.specs.declared.Record.{Record}
 use Rattle.state.specs.Parameter.{codeAt}
@@ -30,6 +30,7 @@ use Rattle.command.specs.Request.{Asked, refused, asked, guardsOf, guarded, rep
 use Rattle.text.specs.Word.{space, digits}
 use Rattle.text.specs.Written.{writtenAt}
 use Rattle.text.proofs.Words.{digits-length}
+use Rattle.text.proofs.Printable.{Text, text-wider, text-joined, text-word, one-text, no-text, text-digits, text-labelled}
 use Rattle.text.proofs.Writing.{Laid, laid-none, laid-same, joined, room-written, digits-high}
 use Rattle.reply.specs.Reply.{labelled, labelledTwo, textFor, writtenOf}
 
@@ -118,51 +119,7 @@ written d e r b n o o₁ o₂ h z f a =
     let g : o₂ ≡ over t o = w .1 ∙ over-at-start t o in
     simp (z, le-leb _ _ h, l, g)
 
--- ---- a text: from one to another number of bytes, each of which may stand in a frame
-pub record Text (least most : ℕ) (t : List ℕ) : Type 0 where
-  pub low : least ≤ length t
-  pub high : length t ≤ most
-  pub bytes : allText t ≡ true
-
-pub text-wider : (a b a′ b′ : ℕ) (t : List ℕ) → a′ ≤ a → b ≤ b′ → Text a b t → Text a′ b′ t
-text-wider a b a′ b′ t h k f = record { low = omega arith; high = omega arith; bytes = f .bytes }
-
-all-text-append : (xs ys : List ℕ) → allText xs ≡ true → allText ys ≡ true → allText (xs ++ ys) ≡ true
-unfolding allBetween
-all-text-append [] ys p q = q
-all-text-append (x ∷ xs) ys p q =
-    and-yes (between 0x20 0x7e x) (allText (xs ++ ys)) (and-left (between 0x20 0x7e x) (allText xs) p) (all-text-append xs ys (and-right (between 0x20 0x7e x) (allText xs) p) q)
-
-pub text-joined : (a b a′ b′ : ℕ) (xs ys : List ℕ) → Text a b xs → Text a′ b′ ys → Text (a + a′) (b + b′) (xs ++ ys)
-text-joined a b a′ b′ xs ys f g =
-    record {
-      low = simp length-append (omega arith);
-      high = simp length-append (omega arith);
-      bytes = all-text-append xs ys (f .bytes) (g .bytes);
-    }
-
-pub text-word : (w : List ℕ) → allText w ≡ true → Text (length w) (length w) w
-text-word w h = record { low = omega arith; high = omega arith; bytes = h }
-
-one-text : (x : ℕ) (xs : List ℕ) → 0x20 ≤ x → x ≤ 0x7e → allText xs ≡ true → allText (x ∷ xs) ≡ true
-unfolding allBetween
-one-text x xs h k p = and-yes (between 0x20 0x7e x) (allText xs) (between-yes 0x20 0x7e x h k) p
-
-no-text : allText [] ≡ true
-unfolding allBetween
-no-text = refl
-
-digits-bytes : (w n : ℕ) → allText (digits w n) ≡ true
-unfolding digits
-digits-bytes zero n = no-text
-digits-bytes (suc w) n =
-    all-text-append (digits w (n / 10)) ((0x30 + n % 10) ∷ []) (digits-bytes w (n / 10)) (one-text (0x30 + n % 10) [] (omega arith) (omega arith) no-text)
-
-pub text-digits : (w n : ℕ) → Text w w (digits w n)
-text-digits w n = let l : length (digits w n) ≡ w = digits-length w n in record { low = omega arith; high = omega arith; bytes = digits-bytes w n }
-
-pub text-labelled : (w : List ℕ) (k n : ℕ) → allText w ≡ true → Text (length w + k) (length w + k) (labelled w k n)
-text-labelled w k n h = text-joined _ _ _ _ w (digits k n) (text-word w h) (text-digits k n)
+-- ---- the texts that are shown
 
 -- each status code has two letters
 abbrev lettersOf : Code → Bool

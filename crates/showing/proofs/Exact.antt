@@ -5,6 +5,7 @@ use mathlib.Core.Path.{_≡_, refl, sym}
 use mathlib.Core.List.{List, [], _∷_, _++_}
 use native.Mathlib.Omega.{arith}
 use lib.ListN.{length, length-append}
+use Rattle.base.proofs.Tests.{_also_}
 use Rattle.base.specs.Text.{text}
 use Rattle.state.specs.declared.Record.{Record}
 use Rattle.state.specs.Parameter.{codeAt}
@@ -16,7 +17,7 @@ use Rattle.text.specs.Word.{space, digits, equal}
 use Rattle.command.specs.Status.{statusCharacters, alarmCharacters}
 use Rattle.command.specs.Commands.{Arguments, Reply, acknowledged, status, codes, numbered, composition, systemAlarms, printed, commands, rowOf}
 use Rattle.text.proofs.Words.{digits-length}
-use Rattle.command.proofs.Fits.{codes as codeList, All, _also_, by-member, Sound}
+use Rattle.command.proofs.Fits.{codes as codeList, All, by-member, Sound}
 use Rattle.knowledge.specs.declared.Knowledge.{Knowledge}
 use Rattle.knowledge.proofs.Possible.{Possible, Kept}
 use Rattle.showing.specs.Heard.{refusalIn}
