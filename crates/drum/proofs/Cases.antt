@@ -55,6 +55,18 @@ out-exactly s n =
     let c = code-out (checked s) n in
     (λ e. f .0 (sym (code-failing s) ∙ c .1 e), λ h. c .0 (code-failing s ∙ f .1 h))
 
+pub out-low : (s : Change) (n : ℕ) → checked s ≡ out n → n ≤ 3
+unfolding checked
+out-low s n =
+    go (within (fieldRange address) (s .address)) (within (fieldRange recipe) (s .recipe)) (within (kindRange Factor) (s .factor)) (within presets (s .preset))
+  where
+    go : (a b c d : Bool) → unless a (out 0) (unless b (out 1) (unless c (out 2) (unless d (out 3) good))) ≡ out n → n ≤ 3
+    go false b c d e = let z : 0 ≡ n = cc in omega arith
+    go true false c d e = let z : 1 ≡ n = cc in omega arith
+    go true true false d e = let z : 2 ≡ n = cc in omega arith
+    go true true true false e = let z : 3 ≡ n = cc in omega arith
+    go true true true true e = absurd (never (cc))
+
 -- ---- the three ways of beginning
 module _ (a r f p : ℕ) (o : List ℕ) (P : Outcome → Type 0) where
   pub by-begin : ((n : ℕ) → checked (picked a r f p) ≡ out n → P (tells (Q n) (picked a r f p) o))

@@ -17,14 +17,17 @@ use Rattle.frame.specs.declared.Kind.the-variants.{Minicomputer}
 use Rattle.frame.specs.Frame.{frameOf}
 use Rattle.frame.proofs.Laws.{frame-length}
 use Rattle.drum.specs.declared.Change.{Change}
-use Rattle.drum.specs.Drum.{Step, _wanting_, steps, framed, asks, wants, requestFrame, replyFrame, good, checked, last, ended, stopped, isStep, awaits, atStep, Told, Q, short, end, stop, Outcome, tells, handsOut, picked, beginOf, takeOf}
-use Rattle.drum.specs.Turns.{Turn, ranOn, sizeTold, handedOut, isTaken, keptIf, takenOf, rightFrom, Came, waits, ends, stops, batchFrame, beforeBatch, AllRoomy}
-use Rattle.drum.proofs.Cases.{by-begin, by-take, awaits-good, good-awaits}
+use Rattle.drum.specs.Drum.{Step, _wanting_, steps, framed, asks, wants, requestFrame, replyFrame, good, checked, last, ended, stopped, isStep, awaits, atStep, Told, Q, short, request, end, stop, Outcome, tells, handsOut, picked, beginOf, takeOf}
+use Rattle.drum.specs.Turns.{Turn, ranOn, handedOut, isTaken, keptIf, takenOf, rightFrom, Came, waits, ends, stops, batchFrame, beforeBatch, AllRoomy}
+use Rattle.drum.proofs.Cases.{out-low, by-begin, by-take, awaits-good, good-awaits}
 use Rattle.drum.proofs.Laws.{step-legal}
 
 -- ---- after the end or a stop nothing is taken, handed out or changed
 not-awaits : (z : Change) → isStep (z .step) ≡ false → awaits z ≡ false
 not-awaits z n = by-test (awaits z) (λ h. absurd (false≢true (sym n ∙ awaits-good z h .1))) (λ h. h)
+
+stop-over : (i : ℕ) → isStep (stopped i) ≡ false
+stop-over i = between-no 1 last (stopped i) (λ l h. omega arith)
 
 refused : (z : Change) (q o : List ℕ) → awaits z ≡ false → takeOf z q o ≡ tells (Q 4) z o
 refused z q o n =
@@ -55,10 +58,6 @@ reply-at i j s = refl
 pub request-at : (i j : ℕ) (s : Change) → requestFrame i (atStep j s) ≡ requestFrame i s
 unfolding requestFrame asks
 request-at i j s = refl
-
-pub hands-at : (i j : ℕ) (s : Change) (o : List ℕ) → handsOut i (atStep j s) o ≡ handsOut i s o
-unfolding handsOut requestFrame asks
-hands-at i j s o = refl
 
 pub hands-after : (i : ℕ) (s : Change) (o : List ℕ) → handsOut i s o .after ≡ atStep i s
 unfolding handsOut
@@ -103,7 +102,7 @@ module _ (s : Change) (qs : List (List ℕ)) (q o : List ℕ) where
   turned : (z : Change) → Came s qs z → Turned (takeOf z q o)
   turned z (ends e d) = over-turned z (ap (λ (x : Change). isStep (x .step)) d) (ends e d)
   turned z (stops n w l x e d) =
-      over-turned z (ap (λ (x : Change). isStep (x .step)) d ∙ between-no 1 5 (stopped (1 + n)) (λ a b. omega arith)) (stops n w l x e d)
+      over-turned z (ap (λ (x : Change). isStep (x .step)) d ∙ stop-over (1 + n)) (stops n w l x e d)
   turned z (waits n l e d) = subst (λ (x : Change). Turned (takeOf x q o)) (sym d) go
     where
       at : Change
@@ -170,21 +169,34 @@ unfolding ranOn
 handing-on [] x h = h
 handing-on (t ∷ ts) x h = handing-on ts (takeOf (x .after) (t .reply) (t .room)) (handing-take (x .after) (t .reply) (t .room))
 
--- and it fits the buffer
-request-short : (i : ℕ) (s : Change) (o : List ℕ) → isStep i ≡ true → sizeTold (handsOut i s o .told) ≤ 64
+-- ---- what may be told
+pub data Sayable : Told → Type 0 where
+  refuses : (n : ℕ) → n ≤ 4 → Sayable (Q n)
+  lacks-room : Sayable short
+  hands-out : (n : ℕ) → 8 ≤ n → n ≤ 64 → Sayable (request n)
+  closes : Sayable end
+  breaks-off : (i : ℕ) → 1 ≤ i → i ≤ last → Sayable (stop i)
+
+says-request : (i : ℕ) (s : Change) (o : List ℕ) → isStep i ≡ true → Sayable (handsOut i s o .told)
 unfolding handsOut requestFrame
-request-short i s o h =
-    let u = step-legal i s (between-low 1 5 i h, between-high 1 5 i h) .0 .high in
-    omega (arith, frame-length Minicomputer (digits 2 (s .address) ++ asks i s), length-append (digits 2 (s .address)) (asks i s), digits-length 2 (s .address))
+says-request i s o h =
+    let x = step-legal i s (between-low 1 last i h, between-high 1 last i h) .0 in
+    let l = x .low in
+    let u = x .high in
+    let size : length (framed (s .address) (asks i s)) ≡ 6 + length (asks i s) =
+    omega (arith, frame-length Minicomputer (digits 2 (s .address) ++ asks i s), length-append (digits 2 (s .address)) (asks i s), digits-length 2 (s .address)) in
+    hands-out (length (framed (s .address) (asks i s))) (omega arith) (omega arith)
 
-pub begun-short : (a r f p : ℕ) (o : List ℕ) → sizeTold (beginOf a r f p o .told) ≤ 64
-begun-short a r f p o =
-    by-begin a r f p o (λ (x : Outcome). sizeTold (x .told) ≤ 64) (λ n e. omega arith) (λ e l. omega arith) (λ e l. request-short 1 (picked a r f p) o refl)
+pub begun-says : (a r f p : ℕ) (o : List ℕ) → Sayable (beginOf a r f p o .told)
+begun-says a r f p o =
+    by-begin a r f p o (λ (x : Outcome). Sayable (x .told)) (λ n e. refuses n (let h = out-low (picked a r f p) n e in omega arith)) (λ e l. lacks-room)
+    (λ e l. says-request 1 (picked a r f p) o refl)
 
-pub taken-short : (z : Change) (q o : List ℕ) → sizeTold (takeOf z q o .told) ≤ 64
-taken-short z q o =
-    by-take z q o (λ (x : Outcome). sizeTold (x .told) ≤ 64) (λ h. omega arith) (λ h l. omega arith) (λ h l w. omega arith) (λ h l r f. omega arith)
-    (λ h l r f. request-short (z .step + 1) z o (next-step z h f))
+pub taken-says : (z : Change) (q o : List ℕ) → Sayable (takeOf z q o .told)
+taken-says z q o =
+    by-take z q o (λ (x : Outcome). Sayable (x .told)) (λ h. refuses 4 (omega arith)) (λ h l. lacks-room)
+    (λ h l w. let s = awaits-good z h .1 in breaks-off (z .step) (between-low 1 last (z .step) s) (between-high 1 last (z .step) s)) (λ h l r f. closes)
+    (λ h l r f. says-request (z .step + 1) z o (next-step z h f))
 
 -- every request that goes out is that of the step behind the right replies that were taken
 pub record InTurn (s : Change) (q : List ℕ) (qs : List (List ℕ)) : Type 0 where
@@ -198,7 +210,7 @@ in-turn-so s z q qs (waits n l e d) h r =
     record { count = n; few = l; asked = r ∙ (ap (λ (x : Change). requestFrame (x .step) x) d ∙ request-at (1 + n) (1 + n) s); taken = e }
 in-turn-so s z q qs (ends e d) h r = absurd (false≢true (sym (ap (λ (x : Change). isStep (x .step)) d) ∙ h))
 in-turn-so s z q qs (stops n w l x e d) h r =
-    absurd (false≢true (sym (ap (λ (x : Change). isStep (x .step)) d ∙ between-no 1 5 (stopped (1 + n)) (λ a b. omega arith)) ∙ h))
+    absurd (false≢true (sym (ap (λ (x : Change). isStep (x .step)) d ∙ stop-over (1 + n)) ∙ h))
 
 pub in-turn : (a r f p : ℕ) (o : List ℕ) (ts : List Turn) → (handedOut (ranOn (beginOf a r f p o) ts) ≡ [] → ⊥)
     → InTurn (picked a r f p) (handedOut (ranOn (beginOf a r f p o) ts)) (takenOf (beginOf a r f p o .after) ts)
@@ -219,7 +231,7 @@ in-turn a r f p o ts some =
         let x : Outcome = tells t (picked a r f p) o in
         absurd (some (sym (ap (λ (y : Outcome). handedOut (ranOn y ts)) z) ∙ stays-over ts x (not-awaits (picked a r f p) refl) .none-out h))
 
--- ---- (a) "gives SB only after PV and RC both showed the picked numbers"
+-- ---- "gives SB only after PV and RC both showed the picked numbers"
 
 -- SB's frame is that of no other step, by its first letter; behind the last step it would be ETX
 letter-at : (i : ℕ) (s : Change) → getD (requestFrame i s) 3 0 ≡ getD (text "NPPRS") (i - 1) 0x03
@@ -253,7 +265,7 @@ batch-only-after a r f p o ts b =
     let n : g .count ≡ 4 = omega arith in
     g .taken ∙ (ap (λ (i : ℕ). rightFrom 1 i (picked a r f p)) n ∙ four-right a r f p)
 
--- ---- (d) it ends or stops after at most five replies
+-- ---- it ends or stops after at most five replies
 came-few : (s z : Change) (qs : List (List ℕ)) → Came s qs z → length qs ≤ 5
 came-few s z qs (waits n l e d) = omega (arith, ap length e ∙ right-count n 1 s)
 came-few s z qs (ends e d) = omega (arith, ap length e ∙ right-count 5 1 s)
@@ -277,8 +289,7 @@ all-taken (t ∷ ts) x m h =
     (λ n. over (tells (Q 4) (x .after) (t .room)) n) (λ a l. let r = m .0 in absurd (omega arith))
     (λ a l w.
     let s : Change = x .after in
-    let u = between-high 1 5 (s .step) (awaits-good s a .1) in
-    over (tells (stop (s .step)) (atStep (stopped (s .step)) s) (t .room)) (not-awaits (atStep (stopped (s .step)) s) (between-no 1 5 (stopped (s .step)) (λ b c. omega arith))))
+    over (tells (stop (s .step)) (atStep (stopped (s .step)) s) (t .room)) (not-awaits (atStep (stopped (s .step)) s) (stop-over (s .step))))
     (λ a l r f. over (tells end (atStep ended (x .after)) (t .room)) (not-awaits (atStep ended (x .after)) refl))
     (λ a l r f k.
     let y : Outcome = handsOut (x .after .step + 1) (x .after) (t .room) in

@@ -13,10 +13,10 @@ use Rattle.drum.specs.declared.Change.{Change}
 use Rattle.drum.specs.Drum as drum
 use Rattle.drum.specs.Drum.{Checked, out, good, checked, atStep, picked, Outcome, handsOut}
 use Rattle.drum.specs.Turns as drum-turns
-use Rattle.drum.specs.Turns.{Turn, sizeTold}
-use Rattle.drum.proofs.Cases.{by-begin, by-take, awaits-good, good-tells}
+use Rattle.drum.specs.Turns.{Turn}
+use Rattle.drum.proofs.Cases.{out-low, by-begin, by-take, awaits-good, good-tells}
 use Rattle.drum.proofs.Order as order
-use Rattle.drum.proofs.Order.{checked-at}
+use Rattle.drum.proofs.Order.{checked-at, Sayable, refuses}
 use Rattle.drumstate.specs.State.{stateOf, changeIn, Left, savedIn, leftBy, noState, beginOf, takeOf, ranOn, Same}
 
 -- what was stored is read again, for picks that are in their ranges
@@ -82,16 +82,16 @@ pub same-run : (a r f p : ℕ) (b o : List ℕ) (ts : List Turn) → length b �
     → Same (ranOn (beginOf a r f p b o) ts) (drum-turns.ranOn (drum.beginOf a r f p o) ts)
 same-run a r f p b o ts l g room = run-on ts (beginOf a r f p b o) (drum.beginOf a r f p o) (begun-same a r f p b o l g room)
 
--- ---- the length that is told is that of a request
-pub begun-short : (a r f p : ℕ) (b o : List ℕ) → sizeTold (beginOf a r f p b o .told) ≤ 64
+-- ---- what may be told
+pub begun-says : (a r f p : ℕ) (b o : List ℕ) → Sayable (beginOf a r f p b o .told)
 unfolding beginOf
-begun-short a r f p b o =
-    by-test (eqb (length b) 8) (λ l. simp l (order.begun-short a r f p o)) (λ l. simp l (none (checked (picked a r f p))))
+begun-says a r f p b o =
+    by-test (eqb (length b) 8) (λ l. simp l (order.begun-says a r f p o)) (λ l. simp l (none (checked (picked a r f p)) refl))
   where
-    none : (x : Checked) → sizeTold (noState x) ≤ 64
-    none (out n) = omega arith
-    none good = omega arith
+    none : (x : Checked) → checked (picked a r f p) ≡ x → Sayable (noState x)
+    none (out n) e = let h = out-low (picked a r f p) n e in refuses n (omega arith)
+    none good e = refuses 4 (omega arith)
 
-pub taken-short : (b q o : List ℕ) → sizeTold (takeOf b q o .told) ≤ 64
+pub taken-says : (b q o : List ℕ) → Sayable (takeOf b q o .told)
 unfolding takeOf
-taken-short b q o = by-test (eqb (length b) 8) (λ l. simp l (order.taken-short (changeIn b) q o)) (λ l. simp l (omega arith))
+taken-says b q o = by-test (eqb (length b) 8) (λ l. simp l (order.taken-says (changeIn b) q o)) (λ l. simp l (refuses 4 (omega arith)))
