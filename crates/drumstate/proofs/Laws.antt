@@ -1,6 +1,7 @@
 -- One law for each return of the code. Assumes nothing.
 use Prim.Native.Nat.{ℕ, _+_, _*_, _/_, _%_, _<_}
 use mathlib.Core.Path.{_≡_, sym, ap, _∙_}
+use mathlib.Core.Bool.{Bool, true, false}
 use mathlib.Core.List.{List, [], _∷_}
 use native.Mathlib.Omega.{arith}
 use lib.ListN.{length, take, drop, getD}
@@ -16,7 +17,8 @@ use Rattle.drum.specs.declared.Picks.{Picks}
 use Rattle.drum.specs.Drum as drum
 use Rattle.drum.specs.Drum.{checked, picked, Told, Q, Outcome}
 use Rattle.drum.specs.Numbers.{checkedAs, toldAs, outcomeAs}
-use Rattle.drumstate.specs.State.{stateOf, changeIn, leaves, savedIn, savedAs, savedOf, leftBy, noState, beginOf, takeOf}
+use Rattle.drum.specs.Turns.{isTaken}
+use Rattle.drumstate.specs.State.{stateOf, changeIn, leaves, savedIn, leftBy, noState, beginOf, takeOf}
 
 -- ---- `change_in`: two bytes and three as a number
 module _ (b : List ℕ) (i : ℕ) where
@@ -52,19 +54,28 @@ change-put s n f₁ f₀ p₂ p₁ p₀ o o₁ l e₁ e₀ d₂ d₁ d₀ w =
     let y : o₁ ≡ x = room-written 0 n x o o₁ (omega arith) w .1 ∙ (over-at-start x o ∙ over-all x o (omega arith)) in
     y ∙ simp (e₁, e₀, d₂, d₁, d₀)
 
--- ---- `save`: by the answer that was matched
-pub saved : (x y : Answer) (s : Change) (b b₁ : List ℕ) → x ≡ y → b₁ ≡ savedIn (toldAs y) s b → savedAs y b₁ ≡ savedOf (toldAs x) s b
-saved x y s b b₁ e w = simp w (ap (λ (z : Answer). savedOf (toldAs z) s b) (sym e))
+-- ---- `save`
+module _ (x : Answer) (s : Change) (b : List ℕ) (t : Bool) (e : t ≡ isTaken (toldAs x)) where
+  pub saved : (b₁ : List ℕ) → t ≡ true → b₁ ≡ stateOf s → b₁ ≡ savedIn (toldAs x) s b
+  unfolding savedIn
+  saved b₁ h w = w ∙ simp (sym e ∙ h)
+
+  pub kept : t ≡ false → b ≡ savedIn (toldAs x) s b
+  unfolding savedIn
+  kept h = simp (sym e ∙ h)
 
 -- ---- `no_state`
 pub no-state-told : (x y : Picks) (t : Told) → x ≡ y → t ≡ noState (checkedAs y) → t ≡ noState (checkedAs x)
 no-state-told x y t e w = w ∙ ap (λ (z : Picks). noState (checkedAs z)) (sym e)
 
 -- ---- `begin` and `take`
-left-so : (x : Outcome) (h : Handled) (a : Answer) (b b₁ o₁ : List ℕ) → outcomeAs h o₁ ≡ x → savedAs a b₁ ≡ savedOf (toldAs (h .answer)) (h .after) b
-    → leaves (toldAs a) b₁ o₁ ≡ leftBy x b
+-- the answer and the state that `save` gives
+abbrev Saved : Handled → Answer → List ℕ → List ℕ → Type 0
+Saved h a b b₁ = (a ≡ h .answer) × (b₁ ≡ savedIn (toldAs (h .answer)) (h .after) b)
+
+left-so : (x : Outcome) (h : Handled) (a : Answer) (b b₁ o₁ : List ℕ) → outcomeAs h o₁ ≡ x → Saved h a b b₁ → leaves (toldAs a) b₁ o₁ ≡ leftBy x b
 left-so x h a b b₁ o₁ e w =
-    ap (λ (z : Told × List ℕ). leaves (z .0) (z .1) o₁) w ∙ ap (λ (y : Outcome). leftBy y b) e
+    ap (λ (z : Answer). leaves (toldAs z) b₁ o₁) (w .0) ∙ (ap (λ (z : List ℕ). leaves (toldAs (h .answer)) z o₁) (w .1) ∙ ap (λ (y : Outcome). leftBy y b) e)
 
 module _ (a r f p : ℕ) (b o : List ℕ) where
   pub begin-no-state : (s : Change) (x : Picks) (y : Answer) → (length b ≡ 8 → ⊥) → s ≡ picked a r f p → checkedAs x ≡ checked s → toldAs y ≡ noState (checkedAs x)
@@ -75,7 +86,7 @@ module _ (a r f p : ℕ) (b o : List ℕ) where
       simp (t, ne-eqb (length b) 8 n)
 
   pub begin-left : (h : Handled) (y : Answer) (b₁ o₁ : List ℕ) → length b ≡ 8 → outcomeAs h o₁ ≡ drum.beginOf a r f p o
-      → savedAs y b₁ ≡ savedOf (toldAs (h .answer)) (h .after) b → leaves (toldAs y) b₁ o₁ ≡ beginOf a r f p b o
+      → Saved h y b b₁ → leaves (toldAs y) b₁ o₁ ≡ beginOf a r f p b o
   unfolding beginOf
   begin-left h y b₁ o₁ l e w = left-so (drum.beginOf a r f p o) h y b b₁ o₁ e w ∙ simp (eq-eqb (length b) 8 l)
 
@@ -85,7 +96,7 @@ module _ (b q o : List ℕ) where
   take-no-state n = simp (ne-eqb (length b) 8 n)
 
   pub take-left : (s : Change) (h : Handled) (y : Answer) (b₁ o₁ : List ℕ) → length b ≡ 8 → s ≡ changeIn b → outcomeAs h o₁ ≡ drum.takeOf s q o
-      → savedAs y b₁ ≡ savedOf (toldAs (h .answer)) (h .after) b → leaves (toldAs y) b₁ o₁ ≡ takeOf b q o
+      → Saved h y b b₁ → leaves (toldAs y) b₁ o₁ ≡ takeOf b q o
   unfolding takeOf
   take-left s h y b₁ o₁ l z e w =
       left-so (drum.takeOf (changeIn b) q o) h y b b₁ o₁ (e ∙ ap (λ (c : Change). drum.takeOf c q o) z) w ∙ simp (eq-eqb (length b) 8 l)

@@ -6,14 +6,14 @@ use mathlib.Core.Path.{_≡_}
 use mathlib.Core.List.{List, [], _∷_, _++_}
 use lib.Dec.{eqb}
 use lib.ListN.{length, take, drop, getD}
-use Rattle.base.specs.Test.{unless}
+use Rattle.base.specs.Test.{pick, unless}
 use Rattle.stored.specs.Form.{bigEndian, numberOf}
 use Rattle.drum.specs.declared.Change.{Change}
 use Rattle.drum.specs.declared.Answer.{Answer}
 use Rattle.drum.specs.Drum as drum
-use Rattle.drum.specs.Drum.{Checked, out, good, checked, picked, Told, Q, short, request, end, stop, Outcome}
+use Rattle.drum.specs.Drum.{Checked, out, good, checked, picked, Told, Q, Outcome}
 use Rattle.drum.specs.Numbers.{toldAs}
-use Rattle.drum.specs.Turns.{Turn}
+use Rattle.drum.specs.Turns.{Turn, isTaken}
 
 unfoldable pub stateOf : Change → List ℕ
 stateOf s = s .address ∷ s .recipe ∷ (bigEndian 2 (s .factor) ++ (bigEndian 3 (s .preset) ++ (s .step ∷ [])))
@@ -39,17 +39,7 @@ leaves t b o = record { told = t; state = b; buffer = o }
 
 -- "each with the state after it"; a refusal leaves every lent byte as it was
 unfoldable pub savedIn : Told → Change → List ℕ → List ℕ
-savedIn (Q n) s b = b
-savedIn short s b = b
-savedIn (request n) s b = stateOf s
-savedIn end s b = stateOf s
-savedIn (stop i) s b = stateOf s
-
-abbrev pub savedAs : Answer → List ℕ → Told × List ℕ
-savedAs a b = (toldAs a, b)
-
-abbrev pub savedOf : Told → Change → List ℕ → Told × List ℕ
-savedOf t s b = (t, savedIn t s b)
+savedIn t s b = pick (isTaken t) (stateOf s) b
 
 abbrev pub leftBy : Outcome → List ℕ → Left
 leftBy x b = leaves (x .told) (savedIn (x .told) (x .after) b) (x .buffer)

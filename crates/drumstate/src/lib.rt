@@ -10,7 +10,8 @@ ghost use mathlib.Core.Path.{_≡_};
 ghost use Prim.Native.Nat.{_%_};
 ghost use lib.ListN.{length};
 ghost use Rattle.drum.specs.Numbers.{checkedAs, toldAs};
-ghost use Rattle.drumstate.specs.State.{changeIn, stateOf, savedAs, savedOf, noState, leftAs, beginOf, takeOf};
+ghost use Rattle.drum.specs.Turns.{isTaken};
+ghost use Rattle.drumstate.specs.State.{changeIn, stateOf, savedIn, noState, leftAs, beginOf, takeOf};
 
 // Bytes of a state.
 const STATE: usize = 8;
@@ -53,29 +54,29 @@ fn put_change(s: Change, state: &mut [u8])
     put_word(&bytes, 0, state);
 }
 
+// The answer leaves another state: it is no refusal.
+fn moves(answer: Answer) -> bool
+    ensures { λ b. ⌜ b ≡ isTaken (toldAs answer) ⌝ }
+{
+    match answer {
+        Answer::Refused(why) => false,
+        Answer::ShortBuffer => false,
+        Answer::Request(n) => true,
+        Answer::Ended => true,
+        Answer::Stopped(step) => true,
+    }
+}
+
 // Stores the state that an answer leaves; a refusal leaves the bytes as they were.
 fn save(handled: Handled, state: &mut [u8]) -> Answer
     requires { ⌜ length (now state) ≡ 8 ⌝ }
-    ensures { λ a. ⌜ savedAs a (now (state .exit)) ≡ savedOf (toldAs (handled .answer)) (handled .after) (now (state .entry)) ⌝ }
+    ensures { λ a. ⌜ (a ≡ handled .answer) × (now (state .exit) ≡ savedIn (toldAs (handled .answer)) (handled .after) (now (state .entry))) ⌝ }
 {
     let answer = handled.answer;
-    let after = handled.after;
-    match answer {
-        Answer::Refused(why) => Answer::Refused(why),
-        Answer::ShortBuffer => Answer::ShortBuffer,
-        Answer::Request(n) => {
-            put_change(after, state);
-            Answer::Request(n)
-        }
-        Answer::Ended => {
-            put_change(after, state);
-            Answer::Ended
-        }
-        Answer::Stopped(step) => {
-            put_change(after, state);
-            Answer::Stopped(step)
-        }
+    if moves(answer) {
+        put_change(handled.after, state);
     }
+    answer
 }
 
 // What a change answers that has no state: the first pick that is out of its range, or Q4.
