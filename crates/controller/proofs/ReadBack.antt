@@ -31,7 +31,7 @@ use Rattle.command.specs.Commands.{EQ, RS, TN, RR, RC, RT, PV, XV, PC, NR, SB, 
 use Rattle.command.specs.Refusals.{refusals}
 use Rattle.command.specs.Answer.{Verdict, accepted, replyText, recordAfter}
 use Rattle.command.specs.Request.{Asked, asked, firstByText, firstByArguments, askedWith, askedFor, askedIn, Guard, guardsIn, guarded, Answered, shows, servedBy, servedOf}
-use Rattle.text.proofs.Printable.{Text, text-wider, text-joined, text-word, text-digits, text-labelled}
+use Rattle.text.proofs.Printable.{Text, text-wider, text-joined, text-word, text-digits, text-labelled, text-labelled-two}
 use Rattle.text.proofs.Words.{value-digits, digits-all}
 use Rattle.command.proofs.Agree.{record-by-steps}
 use Rattle.reply.specs.Reply.{textFor}
@@ -155,6 +155,9 @@ module _ (k : Kind) (s : Record) (o : List ℕ) (v : valid s ≡ true) (room : 6
   two : (c d : ℕ) → allText (c ∷ d ∷ []) ≡ true → Text 2 58 (c ∷ d ∷ [])
   two c d h = text-wider 2 2 2 58 (c ∷ d ∷ []) (omega arith) (omega arith) (text-word (c ∷ d ∷ []) h)
 
+  behind-two : (c d w m : ℕ) → w ≤ 8 → allText (c ∷ d ∷ space ∷ []) ≡ true → Text 2 58 (c ∷ d ∷ space ∷ digits w m)
+  behind-two c d w m l h = text-wider _ _ 2 58 _ (omega arith) (omega arith) (text-labelled (c ∷ d ∷ space ∷ []) w m h)
+
   pub status-read : Answers (text "EQ") (statusCharacters s)
   unfolding guardsIn rowOf allBetween
   status-read = answers 0x45 0x51 [] EQ none refl refl (two 0x45 0x51 refl) (plain-asked (s .address) .0) refl refl
@@ -189,7 +192,7 @@ module _ (k : Kind) (s : Record) (o : List ℕ) (v : valid s ≡ true) (room : 6
     pub recipe-served : (r : ℕ) → within (fieldRange recipe) r ≡ true → LeavesAt k s o (get address s) (text "NR " ++ digits 2 r) (text "OK") (put recipe r s)
     unfolding guardsIn guarded applied rowOf allBetween
     recipe-served r w =
-        served-so 0x4e 0x52 (space ∷ digits 2 r) NR (aPlace 0 r) refl refl (text-wider _ _ 2 58 _ (omega arith) (omega arith) (text-labelled (text "NR ") 2 r refl))
+        served-so 0x4e 0x52 (space ∷ digits 2 r) NR (aPlace 0 r) refl refl (behind-two 0x4e 0x52 2 r (omega arith) refl)
         (recipe-asked (s .address) r w) (simp (keypad-off, in-idle))
 
     pub value-served : (p i v : ℕ) → placeOf p ≡ At i → v < 10 ^ 8 → within (rangeAt i) v ≡ true → get (level i) s ≤ get access s
@@ -197,14 +200,13 @@ module _ (k : Kind) (s : Record) (o : List ℕ) (v : valid s ≡ true) (room : 6
     unfolding guardsIn guarded applied rowOf allBetween
     value-served p i v e h w l =
         served-so 0x50 0x43 (space ∷ (digits 3 p ++ (space ∷ digits 8 v))) PC (aPlace i v) refl refl
-        (text-wider _ _ 2 58 _ (omega arith) (omega arith)
-        (text-joined _ _ _ _ (text "PC " ++ digits 3 p) (space ∷ digits 8 v) (text-labelled (text "PC ") 3 p refl) (text-labelled (space ∷ []) 8 v refl)))
+        (text-wider _ _ 2 58 _ (omega arith) (omega arith) (text-labelled-two (text "PC ") 3 p 8 v refl))
         (value-asked (s .address) p i e v h w) (simp (keypad-off, le-ltb (get access s) (get (level i) s) l, in-idle))
 
     pub batch-served : (v : ℕ) → 1 ≤ v → v ≤ fieldRange preset .high → LeavesAt k s o (get address s) (text "SB " ++ digits 6 v) (text "OK") (batchSet v s)
     unfolding guardsIn guarded applied rowOf allBetween batchSet
     batch-served v l h =
-        served-so 0x53 0x42 (space ∷ digits 6 v) SB (aPlace 0 v) refl refl (text-wider _ _ 2 58 _ (omega arith) (omega arith) (text-labelled (text "SB ") 6 v refl))
+        served-so 0x53 0x42 (space ∷ digits 6 v) SB (aPlace 0 v) refl refl (behind-two 0x53 0x42 6 v (omega arith) refl)
         (batch-asked (s .address) v l h) (simp (keypad-off, in-idle))
 
   pub raw-read : Answers (text "RT R") (text "RT R " ++ digits 8 (get raw s))
@@ -219,20 +221,17 @@ module _ (k : Kind) (s : Record) (o : List ℕ) (v : valid s ≡ true) (room : 6
     label-so : (w : List ℕ) → parameterLabel w i ≡ w ++ (digits 3 p ++ (space ∷ []))
     label-so w = ap (λ (c : ℕ). w ++ (digits 3 c ++ (space ∷ []))) (code-has-place p i e .1)
 
-    coded : (c d : ℕ) → allText (c ∷ d ∷ space ∷ []) ≡ true → Text 2 58 (c ∷ d ∷ space ∷ digits 3 p)
-    coded c d h = text-wider 6 6 2 58 _ (omega arith) (omega arith) (text-labelled (c ∷ d ∷ space ∷ []) 3 p h)
-
     pub value-read : Answers (text "PV " ++ digits 3 p) (parameterShown (text "PV ") p 8 (get (value i) s))
     unfolding guardsIn rowOf allBetween
     value-read =
         subst (λ (w : List ℕ). Answers (text "PV " ++ digits 3 p) (w ++ digits 8 (get (value i) s))) (label-so (text "PV "))
-        (answers 0x50 0x56 (space ∷ digits 3 p) PV (aPlace i 0) refl refl (coded 0x50 0x56 refl) (parameter-asked (s .address) p i e .0) refl refl)
+        (answers 0x50 0x56 (space ∷ digits 3 p) PV (aPlace i 0) refl refl (behind-two 0x50 0x56 3 p (omega arith) refl) (parameter-asked (s .address) p i e .0) refl refl)
 
     pub level-read : Answers (text "XV " ++ digits 3 p) (parameterShown (text "XV ") p 1 (get (level i) s))
     unfolding guardsIn rowOf allBetween
     level-read =
         subst (λ (w : List ℕ). Answers (text "XV " ++ digits 3 p) (w ++ digits 1 (get (level i) s))) (label-so (text "XV "))
-        (answers 0x58 0x56 (space ∷ digits 3 p) XV (aPlace i 0) refl refl (coded 0x58 0x56 refl) (parameter-asked (s .address) p i e .1) refl refl)
+        (answers 0x58 0x56 (space ∷ digits 3 p) XV (aPlace i 0) refl refl (behind-two 0x58 0x56 3 p (omega arith) refl) (parameter-asked (s .address) p i e .1) refl refl)
 
 -- RC shows two numbers
 pub composition-same : (a b x y : ℕ) → a ≡ b → x ≡ y → composed a x ≡ composed b y

@@ -3,14 +3,14 @@ use Prim.Native.Nat.{ℕ, _+_, _≤_, _<_}
 use mathlib.Core.Bool.{Bool, true, false}
 use mathlib.Core.Path.{_≡_, refl, sym, ap, _∙_}
 use mathlib.Core.List.{List, [], _∷_}
-use mathlib.Core.Logic.{_↔_}
+use mathlib.Core.Logic.{_↔_, ⊎-elim}
 use native.Mathlib.Omega.{arith}
 use lib.Dec.{eqb, leb}
-use lib.ListN.{length}
+use lib.ListN.{length, getD, List·getD-eq-default}
 use borrow.Author.Tests.{leb-true, leb-false, eqb-true, eqb-false}
 use Rattle.base.specs.Test.{unless}
-use Rattle.base.proofs.FirstFailing.{FirstFailing, failing, failing-exactly}
-use Rattle.base.proofs.Tests.{by-test, never}
+use Rattle.base.proofs.FirstFailing.{FirstFailing, failing, not-both, failing-exactly, none-exactly}
+use Rattle.base.proofs.Tests.{by-test, never, below-or-not}
 use Rattle.text.specs.Word.{equal}
 use Rattle.text.proofs.Words.{equal-true, equal-same}
 use Rattle.state.specs.declared.ParameterKind.the-variants.{Factor}
@@ -55,17 +55,22 @@ out-exactly s n =
     let c = code-out (checked s) n in
     (λ e. f .0 (sym (code-failing s) ∙ c .1 e), λ h. c .0 (code-failing s ∙ f .1 h))
 
-pub out-low : (s : Change) (n : ℕ) → checked s ≡ out n → n ≤ 3
-unfolding checked
-out-low s n =
-    go (within (fieldRange address) (s .address)) (within (fieldRange recipe) (s .recipe)) (within (kindRange Factor) (s .factor)) (within presets (s .preset))
-  where
-    go : (a b c d : Bool) → unless a (out 0) (unless b (out 1) (unless c (out 2) (unless d (out 3) good))) ≡ out n → n ≤ 3
-    go false b c d e = let z : 0 ≡ n = cc in omega arith
-    go true false c d e = let z : 1 ≡ n = cc in omega arith
-    go true true false d e = let z : 2 ≡ n = cc in omega arith
-    go true true true false e = let z : 3 ≡ n = cc in omega arith
-    go true true true true e = absurd (never (cc))
+pub out-low : (s : Change) (n : ℕ) → checked s ≡ out n → n < 4
+out-low s n e =
+    ⊎-elim (λ (l : n < 4). l) (λ (l : 4 ≤ n). not-both (getD (tests s) n true) (List·getD-eq-default (tests s) true l) (out-exactly s n .0 e .fails))
+    (below-or-not n 4)
+
+-- picks that are good lie in their ranges
+pub record InRange (s : Change) : Type 0 where
+  pub address-in : within (fieldRange address) (s .address) ≡ true
+  pub recipe-in : within (fieldRange recipe) (s .recipe) ≡ true
+  pub factor-in : within (kindRange Factor) (s .factor) ≡ true
+  pub preset-in : within presets (s .preset) ≡ true
+
+pub good-tells : (s : Change) → checked s ≡ good → InRange s
+good-tells s e =
+    let h = none-exactly (tests s) .0 (sym (code-failing s) ∙ ap codeIn e) in
+    record { address-in = h 0; recipe-in = h 1; factor-in = h 2; preset-in = h 3 }
 
 -- ---- the three ways of beginning
 module _ (a r f p : ℕ) (o : List ℕ) (P : Outcome → Type 0) where
@@ -110,22 +115,3 @@ awaits-good s h = go (checked s) refl h
 pub good-awaits : (s : Change) → checked s ≡ good → isStep (s .step) ≡ true → awaits s ≡ true
 unfolding awaits
 good-awaits s e h = ap (λ (x : Checked). awaitsWith x (s .step)) e ∙ h
-
--- picks that are good lie in their ranges
-pub record InRange (s : Change) : Type 0 where
-  pub address-in : within (fieldRange address) (s .address) ≡ true
-  pub recipe-in : within (fieldRange recipe) (s .recipe) ≡ true
-  pub factor-in : within (kindRange Factor) (s .factor) ≡ true
-  pub preset-in : within presets (s .preset) ≡ true
-
-pub good-tells : (s : Change) → checked s ≡ good → InRange s
-unfolding checked
-good-tells s e =
-    let (a, x) = passed (within (fieldRange address) (s .address)) 0 _ e in
-    let (b, y) = passed (within (fieldRange recipe) (s .recipe)) 1 _ x in
-    let (c, z) = passed (within (kindRange Factor) (s .factor)) 2 _ y in
-    record { address-in = a; recipe-in = b; factor-in = c; preset-in = passed (within presets (s .preset)) 3 _ z .0 }
-  where
-    passed : (b : Bool) (n : ℕ) (x : Checked) → unless b (out n) x ≡ good → (b ≡ true) × (x ≡ good)
-    passed true n x e = (refl, e)
-    passed false n x e = absurd (never (cc))

@@ -12,19 +12,19 @@ use borrow.Author.Tests.{le-leb, lt-leb, eq-eqb, ne-eqb, eqb-true, eqb-false, no
 use Rattle.base.specs.Test.{allBetween}
 use Rattle.base.specs.Lists.{over}
 use Rattle.base.specs.Text.{text}
-use Rattle.base.proofs.Lists.{over-take, over-at-start, over-at-length}
+use Rattle.base.proofs.Lists.{over-at-start, over-at-length}
 use Rattle.base.proofs.Tests.{_also_, by-test, between-low, between-high}
 use Rattle.text.specs.Word.{space, digits, equal}
-use Rattle.text.proofs.Printable.{Text, text-wider, text-joined, text-word, text-digits, text-labelled}
+use Rattle.text.proofs.Printable.{Text, text-wider, text-joined, text-word, text-digits, text-labelled, text-labelled-two}
 use Rattle.text.proofs.Words.{digits-length}
 use Rattle.text.specs.Written.{writtenAt}
-use Rattle.text.proofs.Writing.{Laid, laid-none, laid-same, joined, both-written, digits-high}
+use Rattle.text.proofs.Writing.{Laid, laid-none, laid-same, laid-back, laid-count, joined, both-written, digits-high}
 use Rattle.state.specs.declared.ParameterKind.the-variants.{Factor}
 use Rattle.state.specs.Parameter.{kindRange}
 use Rattle.state.specs.Field.{address, recipe, fieldRange}
 use Rattle.state.specs.Valid.{within}
 use Rattle.frame.specs.declared.Kind.the-variants.{Minicomputer}
-use Rattle.frame.specs.Frame.{frameOf, allText}
+use Rattle.frame.specs.Frame.{allText}
 use Rattle.frame.specs.Numbers.{Answer, accepted, lengthIn}
 use Rattle.frame.specs.Answer.{buildOf}
 use Rattle.frame.proofs.Laws.{frame-length, framed-built}
@@ -190,15 +190,9 @@ message-short m h =
 pub text-short : (a : ℕ) (m : Message) (n : ℕ) (o o₁ : List ℕ) → Narrow m → Laid 0 (digits 2 a ++ messageText m) o n o₁ → n ≤ 22
 text-short a m n o o₁ h l = omega (arith, l .0, length-append (digits 2 a) (messageText m), digits-length 2 a, message-short m h)
 
-module _ (t o o₁ : List ℕ) (n : ℕ) (l : Laid 0 t o n o₁) where
-  text-back : take n o₁ ≡ t
-  text-back = let e : length t ≡ n = omega (arith, l .0) in ap (take n) (l .1 ∙ over-at-start t o) ∙ over-take t o n e
-
-  pub text-count : n ≡ length (take n o₁)
-  text-count = let e : n ≡ length t = omega (arith, l .0) in e ∙ sym (ap length text-back)
-
-  pub text-built : (y : Answer) (q b : List ℕ) → (y, b) ≡ buildOf Minicomputer (take n o₁) q → (y, b) ≡ buildOf Minicomputer t q
-  text-built y q b e = e ∙ ap (λ (x : List ℕ). buildOf Minicomputer x q) text-back
+pub text-built : (t o o₁ : List ℕ) (n : ℕ) → Laid 0 t o n o₁ → (y : Answer) (q b : List ℕ) → (y, b) ≡ buildOf Minicomputer (take n o₁) q
+    → (y, b) ≡ buildOf Minicomputer t q
+text-built t o o₁ n l y q b e = e ∙ ap (λ (x : List ℕ). buildOf Minicomputer x q) (laid-back t o o₁ n l)
 
 -- ---- each step's texts may stand in a frame
 abbrev Legal : Step → Type 0
@@ -213,24 +207,15 @@ legal-in [] i d h l = absurd (not-suc-le-zero l)
 legal-in (x ∷ xs) zero d h l = h .0
 legal-in (x ∷ xs) (suc i) d h l = legal-in xs i d (h .1) (le-of-suc-le-suc l)
 
-number-legal : (w n : ℕ) → Text (1 + w) (1 + w) (number w n)
-unfolding allBetween
-number-legal w n = text-labelled (space ∷ []) w n refl
+module _ (c d : ℕ) (h : allText (c ∷ d ∷ space ∷ []) ≡ true) where
+  one-legal : (w n : ℕ) → w ≤ 8 → Text 2 20 (c ∷ d ∷ number w n)
+  one-legal w n l = text-wider _ _ 2 20 _ (omega arith) (omega arith) (text-labelled (c ∷ d ∷ space ∷ []) w n h)
 
-module _ (c d : ℕ) (h : allText (c ∷ d ∷ []) ≡ true) where
-  abbrev word : List ℕ
-  word = c ∷ d ∷ []
+  two-legal : (w n w′ n′ : ℕ) → w ≤ 8 → w′ ≤ 8 → Text 2 20 (c ∷ d ∷ (number w n ++ number w′ n′))
+  two-legal w n w′ n′ l l′ = text-wider _ _ 2 20 _ (omega arith) (omega arith) (text-labelled-two (c ∷ d ∷ space ∷ []) w n w′ n′ h)
 
-  word-legal : Text 2 20 word
-  word-legal = text-wider 2 2 2 20 word (omega arith) (omega arith) (text-word word h)
-
-  one-legal : (w n : ℕ) → w ≤ 8 → Text 2 20 (word ++ number w n)
-  one-legal w n l = text-wider (2 + (1 + w)) (2 + (1 + w)) 2 20 _ (omega arith) (omega arith) (text-joined _ _ _ _ word (number w n) (text-word word h) (number-legal w n))
-
-  two-legal : (w n w′ n′ : ℕ) → w ≤ 8 → w′ ≤ 8 → Text 2 20 (word ++ (number w n ++ number w′ n′))
-  two-legal w n w′ n′ l l′ =
-      text-wider (2 + ((1 + w) + (1 + w′))) (2 + ((1 + w) + (1 + w′))) 2 20 _ (omega arith) (omega arith)
-      (text-joined _ _ _ _ word _ (text-word word h) (text-joined _ _ _ _ (number w n) (number w′ n′) (number-legal w n) (number-legal w′ n′)))
+word-legal : (c d : ℕ) → allText (c ∷ d ∷ []) ≡ true → Text 2 20 (c ∷ d ∷ [])
+word-legal c d h = text-wider 2 2 2 20 (c ∷ d ∷ []) (omega arith) (omega arith) (text-word (c ∷ d ∷ []) h)
 
 steps-legal : (s : Change) → AllLegal (steps s)
 unfolding allBetween
@@ -250,39 +235,38 @@ unfolding asks wants
 step-legal i s h = let l = h .0 in let u = h .1 in legal-in (steps s) (i - 1) ([] wanting []) (steps-legal s) (omega arith)
 
 -- a frame that was built
-pub body-built : (a : ℕ) (t t′ o b : List ℕ) (y : Answer) (n : ℕ) → Text 2 20 t → t′ ≡ t → 64 ≤ length o → (y, b) ≡ buildOf Minicomputer (digits 2 a ++ t′) o
-    → n ≡ lengthIn y → (n ≡ length (framed a t)) × (b ≡ over (framed a t) o)
+pub framed-length : (a : ℕ) (t : List ℕ) → length (framed a t) ≡ 6 + length t
+framed-length a t = omega (arith, frame-length Minicomputer (digits 2 a ++ t), length-append (digits 2 a) t, digits-length 2 a)
+
+body-built : (a : ℕ) (t t′ o b : List ℕ) (y : Answer) (n : ℕ) → Text 2 20 t → t′ ≡ t → 64 ≤ length o → (y, b) ≡ buildOf Minicomputer (digits 2 a ++ t′) o
+    → n ≡ lengthIn y → Laid 0 (framed a t) o n b
 body-built a t t′ o b y n h z room e size =
     let x : List ℕ = digits 2 a ++ t in
     let whole : Text 4 22 x = text-joined 2 2 2 20 (digits 2 a) t (text-digits 2 a) h in
-    let made : buildOf Minicomputer x o ≡ (accepted (length (frameOf Minicomputer x)), over (frameOf Minicomputer x) o) =
+    let made : buildOf Minicomputer x o ≡ (accepted (length (framed a t)), over (framed a t) o) =
     framed-built Minicomputer x o _ _
     (record { room = room; low = whole .low; high = (let u = whole .high in omega arith); text = whole .bytes; size = refl; left = refl }) in
-    let all : _≡_ {A = Answer × List ℕ} (y, b) (accepted (length (frameOf Minicomputer x)), over (frameOf Minicomputer x) o) =
+    let all : _≡_ {A = Answer × List ℕ} (y, b) (accepted (length (framed a t)), over (framed a t) o) =
     e ∙ (ap (λ (w : List ℕ). buildOf Minicomputer (digits 2 a ++ w) o) z ∙ made) in
-    (size ∙ ap (λ (w : Answer × List ℕ). lengthIn (w .0)) all, ap (λ (w : Answer × List ℕ). w .1) all)
+    let l : n ≡ length (framed a t) = size ∙ ap (λ (w : Answer × List ℕ). lengthIn (w .0)) all in
+    (omega arith, ap (λ (w : Answer × List ℕ). w .1) all ∙ sym (over-at-start (framed a t) o))
 
 -- ---- `is_right`
 module _ (s : Change) (m : Message) (o b : List ℕ) (y : Answer) (n : ℕ) (h : (1 ≤ s .step) × (s .step ≤ 5)) (says-so : Says m (wants (s .step) s))
     (room : 64 ≤ length o) (built : (y, b) ≡ buildOf Minicomputer (digits 2 (s .address) ++ messageText m) o) (size : n ≡ lengthIn y) where
-  right-built : (n ≡ length (replyFrame (s .step) s)) × (b ≡ over (replyFrame (s .step) s) o)
+  right-laid : Laid 0 (replyFrame (s .step) s) o n b
   unfolding replyFrame
-  right-built = body-built (s .address) (wants (s .step) s) (messageText m) o b y n (step-legal (s .step) s h .1) (says-so .0) room built size
-
-  right-back : take n b ≡ replyFrame (s .step) s
-  right-back = ap (take n) (right-built .1) ∙ over-take (replyFrame (s .step) s) o n (sym (right-built .0))
+  right-laid = body-built (s .address) (wants (s .step) s) (messageText m) o b y n (step-legal (s .step) s h .1) (says-so .0) room built size
 
   pub right-short : n ≤ 26
   unfolding replyFrame
-  right-short =
-      let u = step-legal (s .step) s h .1 .high in
-      omega (arith, right-built .0, frame-length Minicomputer (digits 2 (s .address) ++ wants (s .step) s), length-append (digits 2 (s .address)) (wants (s .step) s), digits-length 2 (s .address))
+  right-short = let u = step-legal (s .step) s h .1 .high in omega (arith, right-laid .0, framed-length (s .address) (wants (s .step) s))
 
   pub right-count : n ≡ length (take n b)
-  right-count = right-built .0 ∙ sym (ap length right-back)
+  right-count = laid-count _ _ _ _ right-laid
 
   pub right-compared : (q : List ℕ) (r : Bool) → r ≡ equal q (take n b) → r ≡ equal q (replyFrame (s .step) s)
-  right-compared q r e = e ∙ ap (equal q) right-back
+  right-compared q r e = e ∙ ap (equal q) (laid-back _ _ _ _ right-laid)
 
 -- ---- `hand_out`
 pub handed : (i : ℕ) (s t : Change) (m : Message) (o b : List ℕ) (y : Answer) (n : ℕ) → (1 ≤ i) × (i ≤ 5) → 64 ≤ length o → Says m (asks i s)
@@ -290,7 +274,8 @@ pub handed : (i : ℕ) (s t : Change) (m : Message) (o b : List ℕ) (y : Answer
 unfolding handsOut requestFrame
 handed i s t m o b y n h room says-so built size z =
     let x = body-built (s .address) (asks i s) (messageText m) o b y n (step-legal i s h .0) (says-so .0) room built size in
-    simp (x .0, x .1, z)
+    let l : n ≡ length (framed (s .address) (asks i s)) = omega (arith, x .0) in
+    simp (l, x .1 ∙ over-at-start (framed (s .address) (asks i s)) o, z)
 
 -- ---- `awaits`
 module _ (s : Change) (x : Picks) (e : checkedAs x ≡ checked s) where

@@ -12,15 +12,12 @@ use Rattle.base.proofs.Lists.{over-take}
 use Rattle.base.proofs.Tests.{by-test, never, below-or-not, holds-below, between-yes, between-no, between-low, between-high}
 use Rattle.base.specs.Text.{text}
 use Rattle.text.specs.Word.{digits}
-use Rattle.text.proofs.Words.{digits-length}
-use Rattle.frame.specs.declared.Kind.the-variants.{Minicomputer}
 use Rattle.frame.specs.Frame.{frameOf}
-use Rattle.frame.proofs.Laws.{frame-length}
 use Rattle.drum.specs.declared.Change.{Change}
 use Rattle.drum.specs.Drum.{Step, _wanting_, steps, framed, asks, wants, requestFrame, replyFrame, good, checked, last, ended, stopped, isStep, awaits, atStep, Told, Q, short, request, end, stop, Outcome, tells, handsOut, picked, beginOf, takeOf}
 use Rattle.drum.specs.Turns.{Turn, ranOn, handedOut, isTaken, keptIf, takenOf, rightFrom, Came, waits, ends, stops, batchFrame, beforeBatch, AllRoomy}
 use Rattle.drum.proofs.Cases.{out-low, by-begin, by-take, awaits-good, good-awaits}
-use Rattle.drum.proofs.Laws.{step-legal}
+use Rattle.drum.proofs.Laws.{step-legal, framed-length}
 
 -- ---- after the end or a stop nothing is taken, handed out or changed
 not-awaits : (z : Change) → isStep (z .step) ≡ false → awaits z ≡ false
@@ -183,8 +180,7 @@ says-request i s o h =
     let x = step-legal i s (between-low 1 last i h, between-high 1 last i h) .0 in
     let l = x .low in
     let u = x .high in
-    let size : length (framed (s .address) (asks i s)) ≡ 6 + length (asks i s) =
-    omega (arith, frame-length Minicomputer (digits 2 (s .address) ++ asks i s), length-append (digits 2 (s .address)) (asks i s), digits-length 2 (s .address)) in
+    let size = framed-length (s .address) (asks i s) in
     hands-out (length (framed (s .address) (asks i s))) (omega arith) (omega arith)
 
 pub begun-says : (a r f p : ℕ) (o : List ℕ) → Sayable (beginOf a r f p o .told)

@@ -30,7 +30,7 @@ use Rattle.command.specs.Request.{Asked, refused, asked, guardsOf, guarded, rep
 use Rattle.text.specs.Word.{space, digits}
 use Rattle.text.specs.Written.{writtenAt}
 use Rattle.text.proofs.Words.{digits-length}
-use Rattle.text.proofs.Printable.{Text, text-wider, text-joined, text-word, one-text, no-text, text-digits, text-labelled}
+use Rattle.text.proofs.Printable.{Text, text-wider, text-joined, text-word, one-text, no-text, space-text, text-digits, text-labelled}
 use Rattle.text.proofs.Writing.{Laid, laid-none, laid-same, joined, room-written, digits-high}
 use Rattle.reply.specs.Reply.{labelled, labelledTwo, textFor, writtenOf}
 
@@ -128,9 +128,6 @@ lettersOf s = eqb (length (s .letters)) 2 && allText (s .letters)
 abbrev allLetters : List Code → Bool
 allLetters [] = true
 allLetters (s ∷ ss) = lettersOf s && allLetters ss
-
-space-text : Text 1 1 (space ∷ [])
-space-text = text-word (space ∷ []) (one-text space [] (omega arith) (omega arith) no-text)
 
 code-text : (s : Code) (b : Bool) → lettersOf s ≡ true → Text 0 3 (pick b (s .letters ++ (space ∷ [])) [])
 code-text s true h =

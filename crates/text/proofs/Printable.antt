@@ -7,7 +7,7 @@ use native.Mathlib.Omega.{arith}
 use lib.ListN.{length, length-append}
 use Rattle.base.specs.Test.{between, allBetween}
 use Rattle.base.proofs.Tests.{and-yes, and-left, and-right, between-yes}
-use Rattle.text.specs.Word.{digits}
+use Rattle.text.specs.Word.{space, digits}
 use Rattle.text.proofs.Words.{digits-length}
 
 -- the bytes that may stand in a frame's text
@@ -57,5 +57,14 @@ digits-bytes (suc w) n =
 pub text-digits : (w n : ℕ) → Text w w (digits w n)
 text-digits w n = let l : length (digits w n) ≡ w = digits-length w n in record { low = omega arith; high = omega arith; bytes = digits-bytes w n }
 
+pub space-text : Text 1 1 (space ∷ [])
+space-text = text-word (space ∷ []) (one-text space [] (omega arith) (omega arith) no-text)
+
 pub text-labelled : (w : List ℕ) (k n : ℕ) → allPrintable w ≡ true → Text (length w + k) (length w + k) (w ++ digits k n)
 text-labelled w k n h = text-joined _ _ _ _ w (digits k n) (text-word w h) (text-digits k n)
+
+-- and a second number behind a space
+pub text-labelled-two : (w : List ℕ) (k n k′ n′ : ℕ) → allPrintable w ≡ true
+    → Text (length w + (k + (1 + k′))) (length w + (k + (1 + k′))) (w ++ (digits k n ++ (space ∷ digits k′ n′)))
+text-labelled-two w k n k′ n′ h =
+    text-joined _ _ _ _ w _ (text-word w h) (text-joined _ _ _ _ (digits k n) _ (text-digits k n) (text-joined _ _ _ _ (space ∷ []) (digits k′ n′) space-text (text-digits k′ n′)))

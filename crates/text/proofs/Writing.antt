@@ -12,7 +12,7 @@ use borrow.Rule.Slice.PartMut.{putMid}
 use borrow.Author.Tests.{le-leb, lt-leb, le-ltb, lt-ltb}
 use Rattle.base.specs.Lists.{overAt}
 use Rattle.base.proofs.Tests.{below-or-not}
-use Rattle.base.proofs.Lists.{over-at-none, over-at-length, over-at-append, over-at-put, over-at-part, fill-before}
+use Rattle.base.proofs.Lists.{over-take, over-at-none, over-at-start, over-at-length, over-at-append, over-at-put, over-at-part, fill-before}
 use Rattle.text.specs.Word.{digits, widthIn, decimal}
 use Rattle.text.specs.Written.{writtenAt}
 use Rattle.text.proofs.Words.{digits-length}
@@ -27,6 +27,14 @@ laid-none at o = (omega arith, sym (over-at-none at o))
 -- of equal bytes
 pub laid-same : (at n : ℕ) (xs ys o o₁ : List ℕ) → xs ≡ ys → Laid at xs o n o₁ → Laid at ys o n o₁
 laid-same at n xs ys o o₁ e a = (a .0 ∙ ap (λ (y : List ℕ). at + length y) e, a .1 ∙ ap (λ (y : List ℕ). overAt at y o) e)
+
+-- laid over the start, they are what stands there
+module _ (xs o o₁ : List ℕ) (n : ℕ) (a : Laid 0 xs o n o₁) where
+  pub laid-back : take n o₁ ≡ xs
+  laid-back = let e : length xs ≡ n = omega (arith, a .0) in ap (take n) (a .1 ∙ over-at-start xs o) ∙ over-take xs o n e
+
+  pub laid-count : n ≡ length (take n o₁)
+  laid-count = let e : n ≡ length xs = omega (arith, a .0) in e ∙ sym (ap length laid-back)
 
 -- ---- a writer, by whether the bytes fit
 pub written-room : (at n : ℕ) (xs o o₁ : List ℕ) → at + length xs ≤ length o → Laid at xs o n o₁ → (n, o₁) ≡ writtenAt at xs o

@@ -1,6 +1,7 @@
 -- `drum::build` meets its contract: the text that was written is the one that is framed. Assumes nothing.
 use borrow.Author.Needs.{needs}
-use Rattle.drum.proofs.Laws.{text-short, text-count, text-built}
+use Rattle.text.proofs.Writing.{laid-count}
+use Rattle.drum.proofs.Laws.{text-short, text-built}
 use Rattle.drum.proofs.build.Statement.{statement}
 use Rattle.drum.proofs.build.Tie as tie
 
@@ -8,7 +9,7 @@ array-share-prefix-text : tie.Need-array-share-prefix-text
 array-share-prefix-text c = let h = text-short _ _ _ _ _ (search needs) (c .before .put-text .ensures) in search needs
 
 slice-aggregate-build : tie.Need-slice-aggregate-build
-slice-aggregate-build c = text-count _ _ _ _ (c .before .before .put-text .ensures)
+slice-aggregate-build c = laid-count _ _ _ _ (c .before .before .put-text .ensures)
 
 returns : tie.Need-returns
 returns c = text-built _ _ _ _ (c .before .before .before .before .before .before .put-text .ensures) _ _ _ (c .before .before .build .ensures)
