@@ -1,15 +1,17 @@
-/* The proved blending controller, panel, stored form, host side, drum change and judge, over bytes and numbers. For C99 and
- * C++.
+/* The proved blending controller, panel, stored form, host side, drum change, judge, and what a recording tells of the
+ * record, over bytes and numbers. For C99 and C++.
  *
  * Every function takes any bytes, lengths and numbers. What no proof can give is asked of the pointers:
  *     none is null, also where the length beside it is 0;
- *     as many bytes as that length says are there to be read, and to be written where the pointer is not const;
+ *     as many bytes (of sets: numbers) as that length says are there to be read, and to be written where the pointer is not
+ *     const;
  *     what is written overlaps nothing else of the same call, and no other thread touches it meanwhile;
  *     what is only read, no other thread writes meanwhile;
- *     what points to a size_t is aligned as size_t is.
+ *     what points to a size_t or a uint32_t is aligned as that is.
  *
  * A call takes under KHUYAPESH_STACK bytes of stack (khuyapesh_board, which holds all records while it works, under
- * KHUYAPESH_BOARD_STACK) and no heap, writes no data but what is lent, and needs nothing outside of the library but memcpy,
+ * KHUYAPESH_BOARD_STACK; khuyapesh_known, khuyapesh_learn and khuyapesh_why, which hold several records' sets, under
+ * KHUYAPESH_TELL_STACK) and no heap, writes no data but what is lent, and needs nothing outside of the library but memcpy,
  * memmove, memset or memcmp. So every function is re-entrant, and threads may call at the same time, each over buffers of
  * its own. (A dynamic linker that looks up memcpy when it is first called takes stack of its own then; linking with -z now,
  * or statically, avoids that.)
@@ -23,6 +25,7 @@
 
 #define KHUYAPESH_STACK 4096
 #define KHUYAPESH_BOARD_STACK 12288
+#define KHUYAPESH_TELL_STACK 8192
 
 /* Bytes of a stored record as it is written, which is version 2; of the longest frame, and the least room for a reply, a
  * built frame or a text that is read; of the longest recording. Stored bytes of version 1 have 177 and are only read: they
@@ -37,6 +40,32 @@
 /* Bytes of the state of a drum change. */
 #define KHUYAPESH_DRUM_STATE 8
 
+/* The fields of a record, each with its number: */
+#define KHUYAPESH_ADDRESS 0
+#define KHUYAPESH_ACCESS 1
+#define KHUYAPESH_PHASE 2 /* 0 Idle, 1 Set, 2 Running, 3 Stopped, 4 Done */
+#define KHUYAPESH_KEYPAD 3 /* this and the flags that follow: 0 off, 1 on */
+#define KHUYAPESH_FLOW 4
+#define KHUYAPESH_CHANGED 5
+#define KHUYAPESH_BATCH_RESET 6
+#define KHUYAPESH_POWER_FAIL 7
+#define KHUYAPESH_RECIPE 8
+#define KHUYAPESH_PRESET 9
+#define KHUYAPESH_RAW 10
+#define KHUYAPESH_BATCH_NUMBER 11
+#define KHUYAPESH_ALARMS 12 /* 19 bits: alarm 1 has the weight 2 to the 18th, alarm 19 the weight 1 */
+/* and for each of the 32 parameters, i = 0 to 31 in rising code, its value and its level. */
+#define KHUYAPESH_VALUE(i) (13 + 2 * (i))
+#define KHUYAPESH_LEVEL(i) (14 + 2 * (i))
+#define KHUYAPESH_FIELDS 77
+
+/* What a field may hold, as one number, its set. Of phase, flags, recipe and levels: bit n (weight 2 to the n) for the number
+ * n. Of address, access, preset, raw, batch number and values: the number that it holds, or KHUYAPESH_ANY for any in its
+ * range. Of the alarms: in bit 0 whether none may be on; in the bits above it, taken as a number m, what may be on if some
+ * are: 0 nothing, 1 to 0x7ffff just those alarms, 0x80000 any that AR does not reset, anything above any. khuyapesh_may_hold
+ * tells of each number whether it is in a set. */
+#define KHUYAPESH_ANY 0xffffffffu
+
 /* The kind of a link. */
 #define KHUYAPESH_MINICOMPUTER 0
 #define KHUYAPESH_TERMINAL 1
@@ -50,10 +79,16 @@
 #define KHUYAPESH_ALARM_ON 5
 #define KHUYAPESH_ALARM_OFF 6
 
-/* What is answered: a length (4 to 64), one of these three, */
+/* What is answered: a length (4 to 64), one of these, */
 #define KHUYAPESH_DONE 0u
 #define KHUYAPESH_FITS 0u
 #define KHUYAPESH_REFUTED 1u
+#define KHUYAPESH_NO_MORE 1u
+/* one of these reasons of khuyapesh_why, */
+#define KHUYAPESH_REPLY_TO_SILENCE 1u
+#define KHUYAPESH_NO_REPLY 2u
+#define KHUYAPESH_NO_RECORD 3u
+#define KHUYAPESH_FIELD 4u
 /* or, from 100 on, one of these classes plus the number that documents 01 and 02 give within it:
  *     silences: S2 short reply buffer, S3 request's length, S4 mark, S5 check, S6 text byte, S7 address or code not of its
  *         form, S8 another address, S9 no record or too many on a board, S11 an address twice on it (a record that is not
@@ -132,6 +167,45 @@ uint32_t khuyapesh_read(uint8_t kind, const uint8_t *frame, size_t frame_length,
 /* Judges a recording. Answers KHUYAPESH_FITS for `fits N`, with 0 in *place and N in *count; KHUYAPESH_REFUTED for `refuted
  * at I of N`, with I in *place and N in *count; J1 to J5 for `refused Jn`, with 0 in both. */
 uint32_t khuyapesh_judge(const uint8_t *recording, size_t recording_length, size_t *place, size_t *count);
+
+/* What a recording tells of the record after its first exchanges (more of them than there are count as all): the records
+ * that a right controller may hold then are exactly those whose every field is in its set. Answers KHUYAPESH_DONE, with the
+ * set of each field at its number in sets, the rest of which stays, and 0 in *place; or H1 for under KHUYAPESH_FIELDS sets,
+ * then J1 to J5, with 0 in *place; or KHUYAPESH_REFUTED where one of these exchanges refutes the recording, with that one in
+ * *place. */
+uint32_t khuyapesh_known(const uint8_t *recording, size_t recording_length, size_t exchanges, uint32_t *sets,
+                         size_t sets_length, size_t *place);
+
+/* One exchange more: from the sets before it, those after it. From the sets of khuyapesh_known of some exchanges, with the
+ * recording's address and access, and the exchange that comes next, it gives those of khuyapesh_known of one more; so a line
+ * can be followed while it talks, from the sets of a recording without exchanges on. Answers KHUYAPESH_FITS, with the sets
+ * after it in their place; KHUYAPESH_REFUTED if no record with its fields in the sets gives this reply; or H1 for under
+ * KHUYAPESH_FIELDS sets. */
+uint32_t khuyapesh_learn(uint8_t address, uint8_t access, const uint8_t *request, size_t request_length,
+                         const uint8_t *reply, size_t reply_length, uint32_t *sets, size_t sets_length);
+
+/* Whether the set of a field has a number: 1 or 0. A number out of the field's range is in no set, and there is no field from
+ * KHUYAPESH_FIELDS on. */
+uint32_t khuyapesh_may_hold(size_t field, uint32_t set, uint32_t number);
+
+/* Why a recording is refuted. Answers KHUYAPESH_FITS if it is not, with 0 in *place; J1 to J5, with 0 in *place; else, with
+ * the refuted exchange in *place, one of
+ *     KHUYAPESH_REPLY_TO_SILENCE   it has a reply, but every controller with the address is silent; n of Sn in *number
+ *     KHUYAPESH_NO_REPLY           it has no reply, but every controller with the address replies
+ *     KHUYAPESH_NO_RECORD          no valid record with the address and the access gives this reply, whatever its fields
+ *     KHUYAPESH_FIELD              some do, but none with the field in *number as it is known to be: before this exchange
+ *                                  its set is *held, this reply needs one of *needed, and these have no number in common;
+ *                                  if that is so of several fields, *number is the lowest
+ * and 0 in what is not named. */
+uint32_t khuyapesh_why(const uint8_t *recording, size_t recording_length, size_t *place, uint32_t *number, uint32_t *held,
+                       uint32_t *needed);
+
+/* The exchange whose first byte, its request's length, is byte number at of a recording, counted from 0; the first of all is
+ * byte 5. Answers KHUYAPESH_DONE, with the request in the bytes from *request up to and without *stop, the reply in those
+ * from *reply up to and without *end, and the next exchange at *end; KHUYAPESH_NO_MORE if at is no byte of it; J5 for an
+ * exchange that is cut by the end; with 0 in all four. */
+uint32_t khuyapesh_exchange(const uint8_t *recording, size_t recording_length, size_t at, size_t *request, size_t *stop,
+                            size_t *reply, size_t *end);
 
 /* Drum change: gives a unit a recipe (1 to 8) with a new factor (8,000 to 12,000), and a batch of the preset (1 to 999,999)
  * only after the unit has shown that it holds both. It hands out the requests NR, PC, PV, RC and SB in turn, as minicomputer

@@ -9,36 +9,46 @@ use crate::stored::STORED_LENGTH;
 use crate::{interface, library};
 use std::fmt::{self, Write};
 
-/// Bytes around each lent slice that neither side may touch.
+mod known;
+mod probes;
+
+/// How much stands around each lent slice that neither side may touch.
 const GUARD: usize = 8;
 const GUARD_BYTE: u8 = 0xA5;
 
 /// A slice to be lent, between guards.
 #[derive(Clone, PartialEq, Eq)]
-struct Lent {
-    bytes: Vec<u8>,
+struct Lent<Item = u8> {
+    items: Vec<Item>,
+    guard: Item,
 }
 
 impl Lent {
     fn new(content: &[u8]) -> Lent {
-        let mut bytes = vec![GUARD_BYTE; content.len() + 2 * GUARD];
-        bytes[GUARD..GUARD + content.len()].copy_from_slice(content);
-        Lent { bytes }
+        Lent::between(GUARD_BYTE, content)
+    }
+}
+
+impl<Item: Copy + PartialEq> Lent<Item> {
+    fn between(guard: Item, content: &[Item]) -> Lent<Item> {
+        let mut items = vec![guard; content.len() + 2 * GUARD];
+        items[GUARD..GUARD + content.len()].copy_from_slice(content);
+        Lent { items, guard }
     }
 
-    fn slice(&mut self) -> &mut [u8] {
-        let end = self.bytes.len() - GUARD;
-        &mut self.bytes[GUARD..end]
+    fn slice(&mut self) -> &mut [Item] {
+        let end = self.items.len() - GUARD;
+        &mut self.items[GUARD..end]
     }
 
-    fn content(&self) -> &[u8] {
-        &self.bytes[GUARD..self.bytes.len() - GUARD]
+    fn content(&self) -> &[Item] {
+        &self.items[GUARD..self.items.len() - GUARD]
     }
 
     fn guards_stand(&self) -> bool {
-        let (front, rest) = self.bytes.split_at(GUARD);
+        let (front, rest) = self.items.split_at(GUARD);
         let back = &rest[rest.len() - GUARD..];
-        front.iter().chain(back).all(|&byte| byte == GUARD_BYTE)
+        front.iter().chain(back).all(|&item| item == self.guard)
     }
 }
 
@@ -80,6 +90,11 @@ pub struct Counts {
     pub fits: u64,
     pub refuted: u64,
     pub refused: u64,
+    pub known: u64,
+    pub learnt: u64,
+    pub explained: u64,
+    /// By reason: a reply to silence, no reply, no record, a field.
+    pub reasons: [u64; 4],
 }
 
 impl Counts {
@@ -93,6 +108,9 @@ impl Counts {
             + self.host_side
             + self.enumerated
             + self.recordings
+            + self.known
+            + self.learnt
+            + self.explained
     }
 }
 
@@ -104,7 +122,8 @@ impl fmt::Display for Counts {
              board calls {} (answered {}, refused {}), \
              drum change calls {} (ended {}, stopped {}, refused {}), panel events {}, \
              stored forms {}, host side {}, enumerated {}, \
-             recordings {} (fits {}, refuted {}, refused {})",
+             recordings {} (fits {}, refuted {}, refused {}), known {}, learnt {}, \
+             explained {} (reply to silence {}, no reply {}, no record {}, field {})",
             self.calls,
             self.several_frames,
             self.answered,
@@ -123,7 +142,14 @@ impl fmt::Display for Counts {
             self.recordings,
             self.fits,
             self.refuted,
-            self.refused
+            self.refused,
+            self.known,
+            self.learnt,
+            self.explained,
+            self.reasons[0],
+            self.reasons[1],
+            self.reasons[2],
+            self.reasons[3]
         )
     }
 }

@@ -5,10 +5,14 @@ use crate::board;
 use crate::controller::{self, Outcome};
 use crate::drum::{self, Answer, Picks};
 use crate::fault::Fault;
+use crate::fields::FIELDS;
 use crate::frame::{self, HostRefusal, Kind};
 use crate::judge::{self, Judgement};
+use crate::known::{Following, Reason, Told, Untold};
+use crate::numbers::{Numbers, Sets};
 use crate::panel::{self, Event};
 use crate::record::Record;
+use crate::recording::{self, Exchange, Spans};
 use crate::several::{self, Report};
 use crate::stored::{self, STORED_LENGTH};
 
@@ -217,6 +221,85 @@ pub fn judge(recording: &[u8], fault: Fault) -> (u32, usize, usize) {
         Judgement::Fits { count } => (0, 0, count),
         Judgement::Refuted { place, count } => (1, place, count),
         Judgement::Refused(number) => (500 + u32::from(number), 0, 0),
+    }
+}
+
+/// What is told of a refuted recording beside the answer: the exchange, the number that goes with the
+/// reason, and a field's sets as the header writes them.
+#[derive(Clone, Copy, PartialEq, Eq, Debug, Default)]
+pub struct Why {
+    pub place: usize,
+    pub number: u32,
+    pub held: u32,
+    pub needed: u32,
+}
+
+const SHORT_BUFFER: u32 = 401;
+
+/// The answer and the place, where nothing is told.
+pub fn known_answer(untold: Untold) -> (u32, usize) {
+    match untold {
+        Untold::ShortBuffer => (SHORT_BUFFER, 0),
+        Untold::Refused(number) => (500 + u32::from(number), 0),
+        Untold::Refuted(place) => (1, place),
+    }
+}
+
+/// Lays sets at the start of a buffer that has room for them.
+pub fn write_sets(known: &Sets, sets: &mut [u32]) {
+    for (place, set) in sets.iter_mut().zip(known) {
+        *place = set.written();
+    }
+}
+
+/// One exchange more over sets that a recording told.
+pub fn learn(address: u8, access: u8, exchange: Exchange, sets: &mut [u32], fault: Fault) -> u32 {
+    let Some(lent) = sets.first_chunk_mut::<FIELDS>() else {
+        return SHORT_BUFFER;
+    };
+    let mut field = 0;
+    let before = lent.map(|set| {
+        field += 1;
+        Numbers::read(field - 1, set)
+    });
+    let Some(mut following) = Following::resume(address, access, &before, fault) else {
+        return 1;
+    };
+    if following.learn(exchange, fault).is_err() {
+        if fault == Fault::RefutationEmptiesSets {
+            lent.fill(0);
+        }
+        return 1;
+    }
+    write_sets(following.sets(), lent);
+    0
+}
+
+/// Why a recording is refuted: the answer, the place, the number that goes with it, and the field's sets.
+pub fn why(told: &Told, fault: Fault) -> (u32, usize, u32, Option<(Numbers, Numbers)>) {
+    match told.why(fault) {
+        Err(number) => (500 + u32::from(number), 0, 0, None),
+        Ok(None) => (0, 0, 0, None),
+        Ok(Some((place, reason))) => match reason {
+            Reason::ReplyToSilence(number) => (1, place, number.into(), None),
+            Reason::NoReply => (2, place, 0, None),
+            Reason::NoRecord => (3, place, 0, None),
+            Reason::Field {
+                field,
+                held,
+                needed,
+            } => (4, place, field as u32, Some((held, needed))),
+        },
+    }
+}
+
+/// The exchange that begins at a byte: the answer, and where its request and its reply are.
+pub fn exchange(recording: &[u8], at: usize, fault: Fault) -> (u32, Spans) {
+    match recording::exchange_at(recording, at, fault) {
+        Ok(Some(spans)) => (0, spans),
+        Ok(None) => (1, Spans::default()),
+        Err(_) if fault == Fault::CutTakenForEnd => (1, Spans::default()),
+        Err(number) => (500 + u32::from(number), Spans::default()),
     }
 }
 

@@ -5,19 +5,22 @@
 //! at them: a level by trying each one that is left, a wide field (a value, raw, the batch number) by
 //! the number that the recorded reply shows, since a reply that shows a field shows it whole. An
 //! accepted PC looks at the value held only for whether it is the written one; where that is open and
-//! tells, a candidate goes on as two. The preset is never shown. Of the alarms a reply shows all, or
-//! only whether any is on, so each candidate keeps which may be on.
+//! tells, a candidate goes on as two. The preset is never shown, but known once it is set. Of the alarms
+//! a reply shows all, or only whether any is on, so each candidate keeps which may be on.
 
 use crate::alarms;
 use crate::command::{Command, Named};
 use crate::controller::{self, Request};
 use crate::fault::Fault;
+use crate::fields::{self, Sort};
 use crate::frame::{self, Kind};
+use crate::numbers::{Numbers, Sets};
 use crate::parameters::{
     another_value, factor_place, is_factor, value_in_range, PARAMETERS, VALUE_RANGES,
 };
 use crate::record::{Phase, Record, HIGHEST_LEVEL, HIGHEST_NUMBER, HIGHEST_RAW, RECIPES};
-use crate::recording;
+use crate::recording::{self, Exchange};
+use std::mem;
 
 #[derive(Clone, Copy, PartialEq, Eq, Debug)]
 pub enum Judgement {
@@ -28,7 +31,7 @@ pub enum Judgement {
 
 /// Which alarms may be on.
 #[derive(Clone, Copy, PartialEq, Eq, PartialOrd, Ord, Debug)]
-enum Alarms {
+pub enum Alarms {
     /// These and no others.
     Exactly(u32),
     /// Any of these, or none.
@@ -50,12 +53,7 @@ impl Alarms {
 
     /// What is left when all of them are shown.
     fn shown(self, alarms: u32) -> Option<Alarms> {
-        let possible = match self {
-            Alarms::Exactly(known) => alarms == known,
-            Alarms::AnyOf(among) => alarms & !among == 0,
-            Alarms::SomeOf(among) => alarms & !among == 0 && alarms != 0,
-        };
-        possible.then_some(Alarms::Exactly(alarms))
+        self.has(alarms).then_some(Alarms::Exactly(alarms))
     }
 
     /// What may be on after AR. One that was on at least may have been one that AR switches off.
@@ -80,6 +78,27 @@ impl Alarms {
         }
     }
 
+    /// Whether just these may be on.
+    pub fn has(self, alarms: u32) -> bool {
+        match self {
+            Alarms::Exactly(known) => alarms == known,
+            Alarms::AnyOf(among) => alarms & !among == 0,
+            Alarms::SomeOf(among) => alarms & !among == 0 && alarms != 0,
+        }
+    }
+
+    /// Whether some alarms, or none, may be on by both.
+    pub fn meets(self, other: Alarms) -> bool {
+        match (self, other) {
+            (Alarms::Exactly(known), set) | (set, Alarms::Exactly(known)) => set.has(known),
+            (Alarms::AnyOf(_), Alarms::AnyOf(_)) => true,
+            (
+                Alarms::AnyOf(among) | Alarms::SomeOf(among),
+                Alarms::AnyOf(others) | Alarms::SomeOf(others),
+            ) => among & others != 0,
+        }
+    }
+
     /// Alarms that may be on: none, where that is possible.
     fn sample(self) -> u32 {
         match self {
@@ -95,6 +114,7 @@ impl Alarms {
 #[derive(Clone, PartialEq, Eq, PartialOrd, Ord, Debug)]
 struct Candidate {
     record: Record,
+    preset_known: bool,
     raw_known: bool,
     number_known: bool,
     /// One bit for each parameter whose value is known.
@@ -112,13 +132,19 @@ enum Wide {
     Value(usize),
 }
 
-fn every_candidate(address: u8, access: u8, fault: Fault) -> Vec<Candidate> {
+/// Every candidate that is possible, with nothing known of it but phase, flags and recipe.
+fn every_candidate(
+    address: u8,
+    access: u8,
+    possible: impl Fn(&Candidate) -> bool,
+) -> Vec<Candidate> {
     let mut candidate = Candidate {
         record: Record {
             address,
             access,
             ..Record::low()
         },
+        preset_known: false,
         raw_known: false,
         number_known: false,
         values_known: 0,
@@ -138,8 +164,7 @@ fn every_candidate(address: u8, access: u8, fault: Fault) -> Vec<Candidate> {
                 record.batch_reset = flag(3);
                 record.power_fail = flag(4);
                 record.recipe = recipe;
-                let reachable = !record.keypad || matches!(phase, Phase::Idle | Phase::Done);
-                if fault != Fault::ReachabilityUsed || reachable {
+                if possible(&candidate) {
                     candidates.push(candidate.clone());
                 }
             }
@@ -225,8 +250,8 @@ impl Candidate {
         true
     }
 
-    /// Steps this candidate through a command that looks at no level; false if the reply disagrees.
-    fn step(&mut self, command: Command, reply: &[u8], told: Told, fault: Fault) -> bool {
+    /// Keeps what agrees with the reply to a command that looks at no level; false if nothing does.
+    fn keep(&mut self, command: Command, reply: &[u8], told: Told, fault: Fault) -> bool {
         let alarms_before = self.alarms;
         if !self.keep_alarms(told) {
             return false;
@@ -249,20 +274,6 @@ impl Candidate {
         }
         if !agrees(&self.record, command, reply, fault) {
             return false;
-        }
-        if reply[2..] == *b"OK" && fault != Fault::RecordNotMoved {
-            self.record = controller::record_after(self.record, command, fault);
-            if command == Command::ResetAlarms {
-                self.know_alarms(self.alarms.after_reset(fault));
-            }
-        }
-        if let (Command::SetBatch(_), b"OK") = (command, &reply[2..]) {
-            self.raw_known = true;
-            self.record.preset = 0;
-            // One more than an unknown number, or 1 after 9999, may again be any.
-            if !self.number_known || fault == Fault::NumberForgottenByBatch {
-                self.forget(Wide::Number);
-            }
         }
         let alarms_forgotten = match fault {
             Fault::ShownAlarmsForgotten => command == Command::Alarms,
@@ -289,57 +300,68 @@ impl Candidate {
         !(teaches_keypad && self.record.keypad)
     }
 
-    /// Steps this candidate through a command that looks at a parameter's level, with each level
-    /// that it may have; false if the reply agrees with none. No effect reads a level, so the records
-    /// after it differ in that level alone.
-    fn step_each_level(
-        &mut self,
-        command: Command,
-        place: usize,
-        reply: &[u8],
-        fault: Fault,
-    ) -> bool {
+    /// Keeps the levels with which a parameter's record gives this reply to a command that looks at its
+    /// level; false if there are none.
+    fn keep_levels(&mut self, command: Command, place: usize, reply: &[u8], fault: Fault) -> bool {
         let phase_alone = fault == Fault::PhaseRefusalAlone && reply[2..] == *b"NO05";
-        let moves = reply[2..] == *b"OK" && fault != Fault::RecordNotMoved;
         let mut trial = self.record;
         trial.keypad &= !phase_alone;
-        let levels_before = self.levels[place];
-        let mut levels_after = 0;
+        let mut kept = 0;
         for level in 0..=HIGHEST_LEVEL {
-            if levels_before & 1 << level == 0
+            if self.levels[place] & 1 << level == 0
                 || misjudged(trial.access, command, level, reply, fault)
             {
                 continue;
             }
             trial.parameters[place].level = if phase_alone { 0 } else { level };
-            if !agrees(&trial, command, reply, fault) {
-                continue;
+            if agrees(&trial, command, reply, fault) {
+                kept |= 1 << level;
             }
-            let level = match moves {
-                true => controller::record_after(trial, command, fault).parameters[place].level,
-                false => level,
-            };
-            levels_after |= 1 << level;
         }
-        if levels_after == 0 {
-            return false;
-        }
-        self.levels[place] = levels_after;
-        if moves {
-            let hidden = self.record.parameters[place].level;
-            self.record = controller::record_after(self.record, command, fault);
-            self.record.parameters[place].level = hidden;
-        }
-        self.learn_written_value(command, reply, fault);
         let forgotten = match fault {
             Fault::ShownLevelForgotten => matches!(command, Command::Level(_)),
             Fault::RefusedLevelForgotten => reply[2..] == *b"NO07",
             _ => false,
         };
-        if forgotten {
-            self.levels[place] = levels_before;
+        if !forgotten {
+            self.levels[place] = kept;
         }
-        true
+        kept != 0
+    }
+
+    /// Has an accepted write take effect.
+    fn go_on(&mut self, command: Command, fault: Fault) {
+        if fault != Fault::RecordNotMoved {
+            self.record = controller::record_after(self.record, command, fault);
+            // No effect reads a level, and only XC writes one.
+            if let Command::WriteLevel(Named { place, .. }, _) = command {
+                let written = mem::replace(&mut self.record.parameters[place].level, 0);
+                self.levels[place] = 1 << written;
+            }
+            if command == Command::ResetAlarms {
+                self.know_alarms(self.alarms.after_reset(fault));
+            }
+        }
+        match command {
+            Command::WriteValue(parameter, value) => {
+                self.learn_written_value(parameter.place, value, fault);
+            }
+            Command::SetBatch(_) => self.learn_batch(fault),
+            _ => {}
+        }
+    }
+
+    /// A batch that was set has a preset and a raw total that are known.
+    fn learn_batch(&mut self, fault: Fault) {
+        self.raw_known = true;
+        self.preset_known = fault != Fault::PresetForgottenByBatch;
+        if !self.preset_known {
+            self.record.preset = 0;
+        }
+        // One more than an unknown number, or 1 after 9999, may again be any.
+        if !self.number_known || fault == Fault::NumberForgottenByBatch {
+            self.forget(Wide::Number);
+        }
     }
 
     /// Settles before an accepted PC whether the value held is the written one, if that is open and
@@ -372,16 +394,81 @@ impl Candidate {
     }
 
     /// A value that was written is known.
-    fn learn_written_value(&mut self, command: Command, reply: &[u8], fault: Fault) {
-        let (Command::WriteValue(Named { place, .. }, value), b"OK") = (command, &reply[2..])
-        else {
-            return;
-        };
+    fn learn_written_value(&mut self, place: usize, value: u32, fault: Fault) {
         self.values_known |= 1 << place;
         if fault == Fault::WriteJudgedInCurrentRecipe && is_factor(place) {
             self.forget(Wide::Value(place));
             self.settle(Wide::Value(factor_place(self.record.recipe)), value, fault);
         }
+    }
+
+    /// The numbers that a field of these records has.
+    fn numbers(&self, field: usize) -> Numbers {
+        let number = fields::number(&self.record, field);
+        match fields::sort(field) {
+            Sort::Alarms => Numbers::Alarms(self.alarms),
+            Sort::Few => Numbers::Few(match fields::level_place(field) {
+                Some(place) => u32::from(self.levels[place]),
+                None => 1 << number,
+            }),
+            Sort::Wide if self.knows_field(field) => Numbers::Just(number),
+            Sort::Wide => Numbers::Any,
+        }
+    }
+
+    fn knows_field(&self, field: usize) -> bool {
+        match field {
+            fields::ADDRESS | fields::ACCESS => true,
+            fields::PRESET => self.preset_known,
+            fields::RAW => self.raw_known,
+            fields::NUMBER => self.number_known,
+            _ => fields::value_place(field).is_some_and(|place| self.knows(Wide::Value(place))),
+        }
+    }
+
+    /// Takes over all but phase, flags and recipe; false if a level has no number left.
+    fn know(&mut self, sets: &Sets) -> bool {
+        if let Numbers::Just(preset) = sets[fields::PRESET] {
+            self.record.preset = preset;
+            self.preset_known = true;
+        }
+        if let Numbers::Just(raw) = sets[fields::RAW] {
+            self.settle(Wide::Raw, raw, Fault::None);
+        }
+        if let Numbers::Just(number) = sets[fields::NUMBER] {
+            self.settle(Wide::Number, number, Fault::None);
+        }
+        if let Numbers::Alarms(alarms) = sets[fields::ALARMS] {
+            self.know_alarms(alarms);
+        }
+        for place in 0..PARAMETERS {
+            if let Numbers::Just(value) = sets[fields::value(place)] {
+                self.settle(Wide::Value(place), value, Fault::None);
+            }
+            if let Numbers::Few(levels) = sets[fields::level(place)] {
+                self.levels[place] &= levels as u8;
+            }
+        }
+        self.levels.iter().all(|&levels| levels != 0)
+    }
+
+    /// Whether two candidates differ in phase, flags and recipe alone.
+    fn same_but_for_state(&self, other: &Candidate) -> bool {
+        let known = |candidate: &Candidate| {
+            (
+                candidate.preset_known,
+                candidate.raw_known,
+                candidate.number_known,
+                candidate.values_known,
+                candidate.alarms,
+                candidate.record.preset,
+                candidate.record.raw,
+                candidate.record.number,
+            )
+        };
+        known(self) == known(other)
+            && self.levels == other.levels
+            && self.record.parameters == other.record.parameters
     }
 }
 
@@ -443,61 +530,147 @@ fn last_digits(reply: &[u8], width: usize) -> Option<u32> {
     })
 }
 
-/// Keeps the candidates that agree with one exchange, as they are after it.
-fn keep_agreeing(candidates: &mut Vec<Candidate>, request: &[u8], reply: &[u8], fault: Fault) {
-    if fault == Fault::SilenceExcused && reply.is_empty() {
-        return;
+/// What an exchange makes of the candidates.
+#[derive(Clone, Copy, PartialEq, Eq, Debug)]
+pub enum Heard {
+    /// It tells nothing: a silence or a refusal that each of them gives.
+    Nothing,
+    /// It is a reply to a read, or a refusal that goes by the record.
+    Told,
+    /// It is a write that was accepted.
+    Accepted(Command),
+}
+
+/// The records that are possible, as candidates.
+#[derive(Clone, Debug)]
+pub struct Candidates {
+    address: u8,
+    candidates: Vec<Candidate>,
+}
+
+impl Candidates {
+    /// Nothing is known but the address and the access.
+    pub fn every(address: u8, access: u8, fault: Fault) -> Candidates {
+        let possible = |candidate: &Candidate| {
+            let Record { phase, keypad, .. } = candidate.record;
+            let reachable = !keypad || matches!(phase, Phase::Idle | Phase::Done);
+            fault != Fault::ReachabilityUsed || reachable
+        };
+        Candidates {
+            address,
+            candidates: every_candidate(address, access, possible),
+        }
     }
-    let address = candidates[0].record.address;
-    let understood = controller::understand(address, Kind::Minicomputer, request, fault);
-    // A reply is a frame as it should be; no other bytes are one.
-    let text = frame::open(Kind::Minicomputer, reply, fault);
-    let (command, text) = match (understood, text) {
-        (Request::Silent(_), _) if reply.is_empty() => return,
-        (Request::Refused(number, _), Ok(text))
-            if text == controller::refusal(address, number).bytes() =>
-        {
-            return
-        }
-        (Request::Asked(command), Ok(text)) => (command, text),
-        _ => return candidates.clear(),
-    };
-    if fault == Fault::UnknownRecipeRefuted && command == Command::RecipeFactor {
-        let recipe = candidates[0].record.recipe;
-        if candidates.iter().any(|other| other.record.recipe != recipe) {
-            return candidates.clear();
+
+    /// Those whose every field is in its set.
+    pub fn within(address: u8, access: u8, sets: &Sets) -> Candidates {
+        let possible = |candidate: &Candidate| {
+            let mut state = fields::STATE;
+            state.all(|field| sets[field].has(field, fields::number(&candidate.record, field)))
+        };
+        let mut candidates = every_candidate(address, access, possible);
+        candidates.retain_mut(|candidate| candidate.know(sets));
+        Candidates {
+            address,
+            candidates,
         }
     }
-    let told = told_of_alarms(command, text, fault);
-    let mut others: Vec<Candidate> = match (command, &text[2..]) {
-        // Every level stands at its low end here and passes, so that keypad and phase decide.
-        (Command::WriteValue(Named { place, .. }, value), b"OK") => candidates
-            .iter_mut()
-            .filter(|candidate| agrees(&candidate.record, command, text, fault))
-            .filter_map(|candidate| candidate.split_by_held_value(place, value, fault))
-            .collect(),
-        _ => vec![],
-    };
-    let mut step = |candidate: &mut Candidate| match command {
-        Command::Level(parameter)
-        | Command::WriteValue(parameter, _)
-        | Command::WriteLevel(parameter, _) => {
-            candidate.step_each_level(command, parameter.place, text, fault)
+
+    pub fn is_empty(&self) -> bool {
+        self.candidates.is_empty()
+    }
+
+    /// Keeps those that agree with one exchange, as they are after it.
+    pub fn hear(&mut self, exchange: Exchange, fault: Fault) -> Heard {
+        let heard = self.keep_agreeing(exchange, fault);
+        if let Heard::Accepted(command) = heard {
+            self.go_on(command, fault);
         }
-        _ if fault == Fault::PhaseRefusalAlone && text[2..] == *b"NO05" => {
-            let mut without_keypad = candidate.clone();
-            without_keypad.record.keypad = false;
-            without_keypad.step(command, text, told, fault)
+        heard
+    }
+
+    /// Keeps those that agree with one exchange, as they are before the request changes anything.
+    pub fn keep_agreeing(&mut self, exchange: Exchange, fault: Fault) -> Heard {
+        let Exchange { request, reply } = exchange;
+        if fault == Fault::SilenceExcused && reply.is_empty() {
+            return Heard::Nothing;
         }
-        _ => candidate.step(command, text, told, fault),
-    };
-    candidates.retain_mut(&mut step);
-    others.retain_mut(&mut step);
-    candidates.append(&mut others);
-    // Writes make different records equal; reads do not.
-    if !command.is_read() && text[2..] == *b"OK" {
-        candidates.sort_unstable();
-        candidates.dedup();
+        let understood = controller::understand(self.address, Kind::Minicomputer, request, fault);
+        // A reply is a frame as it should be; no other bytes are one.
+        let text = frame::open(Kind::Minicomputer, reply, fault);
+        let (command, text) = match (understood, text) {
+            (Request::Silent(_), _) if reply.is_empty() => return Heard::Nothing,
+            (Request::Refused(number, _), Ok(text))
+                if text == controller::refusal(self.address, number).bytes() =>
+            {
+                return Heard::Nothing
+            }
+            (Request::Asked(command), Ok(text)) => (command, text),
+            _ => {
+                self.candidates.clear();
+                return Heard::Told;
+            }
+        };
+        if fault == Fault::UnknownRecipeRefuted && command == Command::RecipeFactor {
+            let mut recipes = self.candidates.iter().map(|one| one.record.recipe);
+            let first = recipes.next();
+            if recipes.any(|other| Some(other) != first) {
+                self.candidates.clear();
+                return Heard::Told;
+            }
+        }
+        let told = told_of_alarms(command, text, fault);
+        self.candidates.retain_mut(|candidate| match command {
+            Command::Level(parameter)
+            | Command::WriteValue(parameter, _)
+            | Command::WriteLevel(parameter, _) => {
+                candidate.keep_levels(command, parameter.place, text, fault)
+            }
+            _ if fault == Fault::PhaseRefusalAlone && text[2..] == *b"NO05" => {
+                let mut without_keypad = candidate.clone();
+                without_keypad.record.keypad = false;
+                without_keypad.keep(command, text, told, fault)
+            }
+            _ => candidate.keep(command, text, told, fault),
+        });
+        if !command.is_read() && text[2..] == *b"OK" {
+            Heard::Accepted(command)
+        } else {
+            Heard::Told
+        }
+    }
+
+    /// Has an accepted write take effect.
+    pub fn go_on(&mut self, command: Command, fault: Fault) {
+        if let Command::WriteValue(Named { place, .. }, value) = command {
+            let split =
+                |candidate: &mut Candidate| candidate.split_by_held_value(place, value, fault);
+            let mut others: Vec<Candidate> = self.candidates.iter_mut().filter_map(split).collect();
+            self.candidates.append(&mut others);
+        }
+        for candidate in &mut self.candidates {
+            candidate.go_on(command, fault);
+        }
+        // Writes make different records equal; reads do not.
+        self.candidates.sort_unstable();
+        self.candidates.dedup();
+    }
+
+    /// For each field the numbers that it has in some candidate; there has to be one.
+    pub fn sets(&self) -> Sets {
+        let (first, others) = self.candidates.split_first().expect("there is a candidate");
+        let mut sets = fields::each(|field| first.numbers(field));
+        for other in others {
+            let apart = if first.same_but_for_state(other) {
+                fields::STATE
+            } else {
+                0..fields::FIELDS
+            };
+            for field in apart {
+                sets[field] = sets[field].joined(other.numbers(field));
+            }
+        }
+        sets
     }
 }
 
@@ -508,9 +681,9 @@ pub fn judge(bytes: &[u8], fault: Fault) -> Judgement {
         Err(number) => return Judgement::Refused(number),
     };
     let count = recording.exchanges.len();
-    let mut candidates = every_candidate(recording.address, recording.access, fault);
-    for (before, exchange) in recording.exchanges.iter().enumerate() {
-        keep_agreeing(&mut candidates, exchange.request, exchange.reply, fault);
+    let mut candidates = Candidates::every(recording.address, recording.access, fault);
+    for (before, &exchange) in recording.exchanges.iter().enumerate() {
+        candidates.hear(exchange, fault);
         if candidates.is_empty() {
             let place = before + 1;
             return Judgement::Refuted {

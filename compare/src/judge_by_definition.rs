@@ -21,7 +21,7 @@ use crate::record::{Phase, Record, RECIPES};
 use crate::recording::{self, Exchange};
 
 /// The record after an exchange, if the exchange agrees.
-fn after(record: Record, (request, reply): (&[u8], &[u8])) -> Option<Record> {
+pub fn after(record: Record, (request, reply): (&[u8], &[u8])) -> Option<Record> {
     let mut buffer = [0; 64];
     let (outcome, after) = controller::call(
         record,
@@ -49,7 +49,7 @@ fn agreeing(mut record: Record, exchanges: &[Exchange]) -> usize {
 }
 
 /// The number in so many digits that a reply ends with.
-fn shown_number(exchange: &Exchange, width: usize) -> Option<u32> {
+pub fn shown_number(exchange: &Exchange, width: usize) -> Option<u32> {
     let start = exchange.reply.len().checked_sub(3 + width)?;
     let digits = std::str::from_utf8(&exchange.reply[start..start + width]).ok()?;
     digits.parse().ok()
@@ -279,7 +279,7 @@ fn by_definition(bytes: &[u8]) -> Option<Judgement> {
 }
 
 /// A recording of up to so many commands, or of some in an order that tells.
-fn telling_recording(random: &mut Random, longest: u32) -> Vec<u8> {
+pub fn telling_recording(random: &mut Random, longest: u32) -> Vec<u8> {
     if random.percent(30) {
         recordings::ordered(random)
     } else {

@@ -1,227 +1,83 @@
-//! The proved library: its C functions and wrappers over slices. The only file with `unsafe`.
-//!
-//! With the feature `self_test` the wrappers call this program's own rules.
+//! The proved library, by its declarations for Rust; without the feature `library`, this program's own
+//! rules in its place.
 
-#[cfg(not(feature = "self_test"))]
-mod declared {
-    #![allow(unsafe_code)]
-
+#[cfg(feature = "library")]
+mod proved {
     use crate::drum::Picks;
+    use crate::interface::Why;
+    use crate::recording::Spans;
     use crate::several::Report;
 
-    extern "C" {
-        fn khuyapesh_call(
-            kind: u8,
-            stored: *mut u8,
-            stored_length: usize,
-            request: *const u8,
-            request_length: usize,
-            reply: *mut u8,
-            reply_length: usize,
-        ) -> u32;
-        fn khuyapesh_several(
-            stored: *mut u8,
-            stored_length: usize,
-            bytes: *const u8,
-            bytes_length: usize,
-            reply: *mut u8,
-            reply_length: usize,
-            taken: *mut usize,
-            answered: *mut usize,
-            written: *mut usize,
-        ) -> u32;
-        fn khuyapesh_board(
-            kind: u8,
-            stored: *mut u8,
-            stored_length: usize,
-            request: *const u8,
-            request_length: usize,
-            reply: *mut u8,
-            reply_length: usize,
-        ) -> u32;
-        fn khuyapesh_drum_begin(
-            address: u8,
-            recipe: u8,
-            factor: u32,
-            preset: u32,
-            state: *mut u8,
-            state_length: usize,
-            request: *mut u8,
-            request_length: usize,
-        ) -> u32;
-        fn khuyapesh_drum_take(
-            state: *mut u8,
-            state_length: usize,
-            reply: *const u8,
-            reply_length: usize,
-            request: *mut u8,
-            request_length: usize,
-        ) -> u32;
-        fn khuyapesh_panel(event: u8, number: u16, stored: *mut u8, stored_length: usize) -> u32;
-        fn khuyapesh_stored(
-            stored: *const u8,
-            stored_length: usize,
-            out: *mut u8,
-            out_length: usize,
-        ) -> u32;
-        fn khuyapesh_build(
-            kind: u8,
-            text: *const u8,
-            text_length: usize,
-            out: *mut u8,
-            out_length: usize,
-        ) -> u32;
-        fn khuyapesh_read(
-            kind: u8,
-            frame: *const u8,
-            frame_length: usize,
-            out: *mut u8,
-            out_length: usize,
-        ) -> u32;
-        fn khuyapesh_judge(
-            recording: *const u8,
-            recording_length: usize,
-            place: *mut usize,
-            count: *mut usize,
-        ) -> u32;
-    }
-
-    pub fn call(kind: u8, stored: &mut [u8], request: &[u8], reply: &mut [u8]) -> u32 {
-        // SAFETY: pointers and lengths of live slices; those that are written overlap no other.
-        unsafe {
-            khuyapesh_call(
-                kind,
-                stored.as_mut_ptr(),
-                stored.len(),
-                request.as_ptr(),
-                request.len(),
-                reply.as_mut_ptr(),
-                reply.len(),
-            )
-        }
-    }
+    pub use khuyapesh::{
+        board, build, call, drum_take, judge, known, learn, may_hold, panel, read, stored,
+        Following,
+    };
 
     /// The answer, and what is reported beside it.
     pub fn several(stored: &mut [u8], bytes: &[u8], reply: &mut [u8]) -> (u32, Report) {
-        // No number is one that the library should leave.
-        let mut report = Report {
-            taken: usize::MAX,
-            answered: usize::MAX,
-            written: usize::MAX,
-        };
-        // SAFETY: pointers and lengths of live slices, and pointers to three numbers of our own; what is
-        // written overlaps nothing else.
-        let answer = unsafe {
-            khuyapesh_several(
-                stored.as_mut_ptr(),
-                stored.len(),
-                bytes.as_ptr(),
-                bytes.len(),
-                reply.as_mut_ptr(),
-                reply.len(),
-                &mut report.taken,
-                &mut report.answered,
-                &mut report.written,
-            )
+        let (answer, report) = khuyapesh::several(stored, bytes, reply);
+        let report = Report {
+            taken: report.taken,
+            answered: report.answered,
+            written: report.written,
         };
         (answer, report)
     }
 
-    pub fn board(kind: u8, stored: &mut [u8], request: &[u8], reply: &mut [u8]) -> u32 {
-        // SAFETY: pointers and lengths of live slices; those that are written overlap no other.
-        unsafe {
-            khuyapesh_board(
-                kind,
-                stored.as_mut_ptr(),
-                stored.len(),
-                request.as_ptr(),
-                request.len(),
-                reply.as_mut_ptr(),
-                reply.len(),
-            )
-        }
-    }
-
     pub fn drum_begin(picks: Picks, state: &mut [u8], request: &mut [u8]) -> u32 {
-        // SAFETY: pointers and lengths of live slices that do not overlap.
-        unsafe {
-            khuyapesh_drum_begin(
-                picks.address,
-                picks.recipe,
-                picks.factor,
-                picks.preset,
-                state.as_mut_ptr(),
-                state.len(),
-                request.as_mut_ptr(),
-                request.len(),
-            )
-        }
+        let Picks {
+            address,
+            recipe,
+            factor,
+            preset,
+        } = picks;
+        khuyapesh::drum_begin(address, recipe, factor, preset, state, request)
     }
 
-    pub fn drum_take(state: &mut [u8], reply: &[u8], request: &mut [u8]) -> u32 {
-        // SAFETY: pointers and lengths of live slices; those that are written overlap no other.
-        unsafe {
-            khuyapesh_drum_take(
-                state.as_mut_ptr(),
-                state.len(),
-                reply.as_ptr(),
-                reply.len(),
-                request.as_mut_ptr(),
-                request.len(),
-            )
-        }
+    /// The answer, and what is told beside it.
+    pub fn why(recording: &[u8]) -> (u32, Why) {
+        let (answer, why) = khuyapesh::why(recording);
+        let why = Why {
+            place: why.place,
+            number: why.number,
+            held: why.held,
+            needed: why.needed,
+        };
+        (answer, why)
     }
 
-    pub fn panel(event: u8, number: u16, stored: &mut [u8]) -> u32 {
-        // SAFETY: pointer and length of a live slice.
-        unsafe { khuyapesh_panel(event, number, stored.as_mut_ptr(), stored.len()) }
+    /// The answer, and where the exchange has its request and its reply.
+    pub fn exchange(recording: &[u8], at: usize) -> (u32, Spans) {
+        let (answer, spans) = khuyapesh::exchange(recording, at);
+        let spans = Spans {
+            request: spans.request,
+            stop: spans.stop,
+            reply: spans.reply,
+            end: spans.end,
+        };
+        (answer, spans)
     }
 
-    pub fn stored(stored: &[u8], out: &mut [u8]) -> u32 {
-        // SAFETY: pointers and lengths of live slices that do not overlap.
-        unsafe { khuyapesh_stored(stored.as_ptr(), stored.len(), out.as_mut_ptr(), out.len()) }
-    }
-
-    pub fn build(kind: u8, text: &[u8], out: &mut [u8]) -> u32 {
-        // SAFETY: pointers and lengths of live slices that do not overlap.
-        unsafe { khuyapesh_build(kind, text.as_ptr(), text.len(), out.as_mut_ptr(), out.len()) }
-    }
-
-    pub fn read(kind: u8, frame: &[u8], out: &mut [u8]) -> u32 {
-        // SAFETY: pointers and lengths of live slices that do not overlap.
-        unsafe {
-            khuyapesh_read(
-                kind,
-                frame.as_ptr(),
-                frame.len(),
-                out.as_mut_ptr(),
-                out.len(),
-            )
-        }
-    }
-
-    /// The answer, the place and the count.
-    pub fn judge(recording: &[u8]) -> (u32, usize, usize) {
-        // Neither number is one that the library should leave.
-        let (mut place, mut count) = (usize::MAX, usize::MAX);
-        // SAFETY: pointer and length of a live slice, and pointers to two numbers of our own.
-        let answer =
-            unsafe { khuyapesh_judge(recording.as_ptr(), recording.len(), &mut place, &mut count) };
-        (answer, place, count)
+    /// The exchanges of a recording in order, up to one that is cut.
+    pub fn exchanges(recording: &[u8]) -> Vec<(&[u8], &[u8])> {
+        khuyapesh::Exchanges::of(recording).collect()
     }
 }
 
-#[cfg(not(feature = "self_test"))]
-pub use declared::{
-    board, build, call, drum_begin, drum_take, judge, panel, read, several, stored,
-};
+#[cfg(feature = "library")]
+pub use proved::*;
 
-#[cfg(feature = "self_test")]
+#[cfg(not(feature = "library"))]
 mod stand_in {
     use crate::drum::Picks;
     use crate::fault::Fault;
-    use crate::interface;
+    use crate::fields::{self, FIELDS};
+    use crate::interface::{self, Why};
+    use crate::known::{self, Told};
+    use crate::numbers::Numbers;
+    use crate::recording::{self, Exchange, Spans};
     use crate::several::Report;
+    use std::cell::RefCell;
 
     pub fn call(kind: u8, stored: &mut [u8], request: &[u8], reply: &mut [u8]) -> u32 {
         interface::call(kind, stored, request, reply, Fault::None)
@@ -262,9 +118,110 @@ mod stand_in {
     pub fn judge(recording: &[u8]) -> (u32, usize, usize) {
         interface::judge(recording, Fault::None)
     }
+
+    thread_local! {
+        /// What the last recording told: it is asked for one number of exchanges after the other.
+        static LAST: RefCell<Option<(Vec<u8>, Told)>> = const { RefCell::new(None) };
+    }
+
+    fn with_told<Answer>(recording: &[u8], ask: impl FnOnce(&Told) -> Answer) -> Answer {
+        LAST.with_borrow_mut(|last| match last {
+            Some((bytes, told)) if bytes == recording => ask(told),
+            _ => {
+                let told = Told::by(recording, Fault::None);
+                let answer = ask(&told);
+                *last = Some((recording.to_vec(), told));
+                answer
+            }
+        })
+    }
+
+    pub fn known(recording: &[u8], exchanges: usize, sets: &mut [u32]) -> (u32, usize) {
+        with_told(recording, |told| {
+            match told.known(exchanges, sets.len(), Fault::None) {
+                Ok(known) => {
+                    interface::write_sets(known, sets);
+                    (0, 0)
+                }
+                Err(untold) => interface::known_answer(untold),
+            }
+        })
+    }
+
+    pub fn learn(address: u8, access: u8, request: &[u8], reply: &[u8], sets: &mut [u32]) -> u32 {
+        let exchange = Exchange { request, reply };
+        interface::learn(address, access, exchange, sets, Fault::None)
+    }
+
+    pub fn may_hold(field: usize, set: u32, number: u32) -> u32 {
+        fields::has(field, set, number, Fault::None).into()
+    }
+
+    pub fn why(recording: &[u8]) -> (u32, Why) {
+        with_told(recording, |told| {
+            let (answer, place, number, sets) = interface::why(told, Fault::None);
+            let (held, needed) =
+                sets.map_or((0, 0), |(held, needed)| (held.written(), needed.written()));
+            let why = Why {
+                place,
+                number,
+                held,
+                needed,
+            };
+            (answer, why)
+        })
+    }
+
+    pub fn exchange(recording: &[u8], at: usize) -> (u32, Spans) {
+        interface::exchange(recording, at, Fault::None)
+    }
+
+    pub fn exchanges(recording: &[u8]) -> Vec<(&[u8], &[u8])> {
+        let (exchanges, _) = recording::exchanges(recording.get(5..).unwrap_or_default());
+        let exchanges = exchanges.into_iter();
+        exchanges
+            .map(|Exchange { request, reply }| (request, reply))
+            .collect()
+    }
+
+    #[derive(Clone)]
+    pub struct Following {
+        following: known::Following,
+        sets: [u32; FIELDS],
+    }
+
+    impl Following {
+        pub fn begin(address: u8, access: u8) -> Option<Following> {
+            let header = [1, 0, 5, address, access];
+            recording::read(&header, Fault::None).ok()?;
+            let following = known::Following::begin(address, access, Fault::None);
+            let sets = following.sets().map(Numbers::written);
+            Some(Following { following, sets })
+        }
+
+        pub fn learn(&mut self, request: &[u8], reply: &[u8]) -> bool {
+            let mut further = self.following.clone();
+            let learnt = further.learn(Exchange { request, reply }, Fault::None);
+            if learnt.is_ok() {
+                self.sets = further.sets().map(Numbers::written);
+                self.following = further;
+            }
+            learnt.is_ok()
+        }
+
+        pub fn exchanges(&self) -> usize {
+            self.following.exchanges()
+        }
+
+        pub fn sets(&self) -> &[u32; FIELDS] {
+            &self.sets
+        }
+
+        pub fn since(&self, field: usize) -> usize {
+            self.following.since(field)
+        }
+    }
 }
 
-#[cfg(feature = "self_test")]
-pub use stand_in::{
-    board, build, call, drum_begin, drum_take, judge, panel, read, several, stored,
-};
+#[cfg(not(feature = "library"))]
+pub use stand_in::*;

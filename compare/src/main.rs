@@ -11,13 +11,18 @@ mod controller;
 mod drum;
 mod enumeration;
 mod fault;
+mod fields;
 mod frame;
 mod generate;
 mod interface;
 mod judge;
 #[cfg(test)]
 mod judge_by_definition;
+mod known;
+#[cfg(test)]
+mod known_by_definition;
 mod library;
+mod numbers;
 mod panel;
 mod parameters;
 mod planted;

@@ -35,7 +35,7 @@ fn take<'recording>(rest: &mut &'recording [u8]) -> Option<&'recording [u8]> {
 }
 
 /// The exchanges up to the end or to the one that is cut by it.
-fn exchanges(mut rest: &[u8]) -> (Vec<Exchange<'_>>, bool) {
+pub fn exchanges(mut rest: &[u8]) -> (Vec<Exchange<'_>>, bool) {
     let mut exchanges = Vec::new();
     while !rest.is_empty() {
         let Some(request) = take(&mut rest) else {
@@ -47,6 +47,35 @@ fn exchanges(mut rest: &[u8]) -> (Vec<Exchange<'_>>, bool) {
         exchanges.push(Exchange { request, reply });
     }
     (exchanges, false)
+}
+
+/// Where an exchange has its request and its reply, each up to and without the second number.
+#[derive(Clone, Copy, PartialEq, Eq, Debug, Default)]
+pub struct Spans {
+    pub request: usize,
+    pub stop: usize,
+    pub reply: usize,
+    pub end: usize,
+}
+
+/// The exchange that begins at a byte, as if one began there; none behind the last byte. Or J5.
+pub fn exchange_at(bytes: &[u8], at: usize, fault: Fault) -> Result<Option<Spans>, u8> {
+    let Some(mut rest) = bytes.get(at..).filter(|rest| !rest.is_empty()) else {
+        return Ok(None);
+    };
+    let request = take(&mut rest).ok_or(5)?;
+    if rest.is_empty() && fault == Fault::CutReplyTakenForSilence {
+        rest = &[0];
+    }
+    let reply = take(&mut rest).ok_or(5)?;
+    let stop = at + 1 + request.len();
+    let end = stop + 1 + reply.len();
+    Ok(Some(Spans {
+        request: at + 1,
+        stop: stop + usize::from(fault == Fault::RequestWithReplyLength),
+        reply: stop + 1,
+        end,
+    }))
 }
 
 /// Takes a recording apart, or answers the number of J1 to J5.
@@ -120,6 +149,27 @@ mod tests {
         assert_eq!(number(&[1, 0, 6, 99, 3, 0]), Some(5));
         assert_eq!(number(&[1, 0, 8, 99, 3, 0, 1, 2]), None);
         assert_eq!(number(&[1, 0, 7, 99, 3, 0, 1]), Some(5));
+    }
+
+    #[test]
+    fn exchanges_by_their_first_byte() {
+        let bytes = build(9, 2, &[(vec![1, 2], vec![]), (vec![], vec![3])]);
+        let at = |at| exchange_at(&bytes, at, Fault::None);
+        let spans = |request, stop, reply, end| Spans {
+            request,
+            stop,
+            reply,
+            end,
+        };
+        assert_eq!(at(5), Ok(Some(spans(6, 8, 9, 9))));
+        assert_eq!(at(9), Ok(Some(spans(10, 10, 11, 12))));
+        assert_eq!(at(10), Err(5));
+        assert_eq!(at(11), Err(5));
+        assert_eq!(
+            (at(12), at(13), at(usize::MAX)),
+            (Ok(None), Ok(None), Ok(None))
+        );
+        assert_eq!(exchange_at(&[], 0, Fault::None), Ok(None));
     }
 
     #[test]

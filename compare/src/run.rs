@@ -4,9 +4,10 @@ use crate::comparison::{reply_laid, Comparison, Counts, Difference};
 use crate::drum::{Step, STEP};
 use crate::enumeration;
 use crate::fault::Fault;
+use crate::fields::{self, ANY, ANY_ALARMS, FIELDS, LASTING_ALARMS};
 use crate::frame::{self, Kind};
 use crate::generate::{
-    boards, drum_changes, host, recordings, records, requests, stored_forms, streams,
+    boards, drum_changes, host, recordings, records, refutations, requests, stored_forms, streams,
 };
 use crate::random::Random;
 use crate::record::Record;
@@ -58,13 +59,14 @@ fn random_rounds(
         up_to(round + 1) - up_to(round)
     };
     let mut record = any_record(&mut random);
-    // Numbers of their own: all else that a seed gives does not hang on the streams, the boards or the
-    // drum changes.
+    // Numbers of their own: all else that a seed gives does not hang on the streams, the boards, the drum
+    // changes or what recordings tell.
     let mut random_of_streams = Random::new(!amounts.seed);
     let mut record_of_streams = any_record(&mut random_of_streams);
     let mut random_of_boards = Random::new(amounts.seed ^ 1 << 63);
     let mut board = boards::board(&mut random_of_boards);
     let mut random_of_drum_changes = Random::new(amounts.seed ^ 1 << 62);
+    let mut random_of_refutations = Random::new(amounts.seed ^ 1 << 61);
     let mut last_progress = Instant::now();
     for round in 0..rounds {
         for _ in 0..share(amounts.calls, round) {
@@ -82,7 +84,9 @@ fn random_rounds(
             host_side(comparison, &mut random)?;
         }
         for _ in 0..share(amounts.recordings, round) {
-            comparison.judge(&recordings::recording(&mut random))?;
+            let recording = recordings::recording(&mut random);
+            comparison.judge(&recording)?;
+            one_telling(comparison, &mut random_of_refutations, &recording)?;
         }
         for _ in 0..share(amounts.calls / 10, round) {
             board = one_board(comparison, &mut random_of_boards, board)?;
@@ -269,6 +273,43 @@ fn one_reply(
             return Ok(taken);
         }
     }
+}
+
+/// What a recording tells, now and then; and what one tells that is likely refuted.
+fn one_telling(
+    comparison: &mut Comparison,
+    random: &mut Random,
+    recording: &[u8],
+) -> Result<(), Difference> {
+    if random.percent(20) {
+        comparison.told(recording)?;
+    }
+    if random.percent(40) {
+        comparison.told(&refutations::recording(random))?;
+    }
+    one_set(comparison, random)
+}
+
+/// Whether a set has a number, both about limits or of any size.
+fn one_set(comparison: &mut Comparison, random: &mut Random) -> Result<(), Difference> {
+    let size = |random: &mut Random| random.next() as u32 >> random.below(32);
+    let field = match random.below(4) {
+        0 => fields::ALARMS,
+        _ => random.below(FIELDS + 3),
+    };
+    let set = match random.below(5) {
+        0 => ANY,
+        1 => LASTING_ALARMS << 1 | random.below(2) as u32,
+        2 => ANY_ALARMS << 1 | random.below(2) as u32,
+        _ => size(random),
+    };
+    let number = match random.below(4) {
+        0 => 0,
+        1 => random.below(34) as u32,
+        2 => set.wrapping_add(random.below(3) as u32).wrapping_sub(1),
+        _ => size(random),
+    };
+    comparison.may_hold(field, set, number)
 }
 
 fn host_side(comparison: &mut Comparison, random: &mut Random) -> Result<(), Difference> {

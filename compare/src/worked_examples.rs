@@ -2,12 +2,17 @@
 //! program.
 
 use crate::alarms;
+use crate::comparison::Comparison;
 use crate::controller::{self, Outcome};
 use crate::drum::{self, Answer, Picks, Step};
 use crate::enumeration::plain_record;
 use crate::fault::Fault;
+use crate::fields::{self, FIELDS};
 use crate::frame::{framed, Kind};
-use crate::judge::{judge, Judgement};
+use crate::interface;
+use crate::judge::{judge, Alarms, Judgement};
+use crate::known::{Reason, Told, Untold};
+use crate::numbers::Numbers;
 use crate::parameters::{factor_place, parameter_code, parameter_place, LIST, VALUE_RANGES};
 use crate::record::{Phase, Record};
 use crate::recording;
@@ -735,7 +740,275 @@ fn every_parameter_code() {
     }
 }
 
-/// The answers that the example recordings are given beside them.
+/// What a field may hold after all of these exchanges.
+fn may_hold(exchanges: &[(&str, &str)], field: usize) -> Numbers {
+    let told = Told::by(&recorded(exchanges), Fault::None);
+    told.known(exchanges.len(), FIELDS, Fault::None).unwrap()[field]
+}
+
+/// Why the last of these exchanges is refuted.
+fn reason(exchanges: &[(&str, &str)]) -> Reason {
+    let told = Told::by(&recorded(exchanges), Fault::None);
+    let (place, reason) = told.why(Fault::None).unwrap().unwrap();
+    assert_eq!(place, exchanges.len());
+    reason
+}
+
+/// The bits of these numbers.
+fn few(numbers: &[u32]) -> Numbers {
+    Numbers::Few(numbers.iter().fold(0, |bits, number| bits | 1 << number))
+}
+
+/// Nothing but address and access is known before the first exchange.
+#[test]
+fn known_before_the_first_exchange() {
+    let expected = [
+        (fields::ADDRESS, Numbers::Just(1)),
+        (fields::ACCESS, Numbers::Just(2)),
+        (fields::PHASE, Numbers::Few(31)),
+        (fields::KEYPAD, Numbers::Few(3)),
+        (fields::RECIPE, Numbers::Few(0x1FE)),
+        (fields::PRESET, Numbers::Any),
+        (fields::RAW, Numbers::Any),
+        (fields::NUMBER, Numbers::Any),
+        (fields::ALARMS, Numbers::Alarms(Alarms::AnyOf(alarms::ALL))),
+        (fields::value(31), Numbers::Any),
+        (fields::level(31), Numbers::Few(15)),
+    ];
+    for (field, numbers) in expected {
+        assert_eq!(may_hold(&[], field), numbers, "{field}");
+    }
+}
+
+#[test]
+fn known_from_replies() {
+    let factor = fields::value(factor_place(3));
+    let level = fields::level(factor_place(3));
+    // RS without TD and TP leaves Idle and Set; EQ tells the phase.
+    assert_eq!(may_hold(&[("RS", "RS ")], fields::PHASE), few(&[0, 1]));
+    assert_eq!(may_hold(&[("EQ", "000000")], fields::PHASE), few(&[0]));
+    // RC tells the recipe and its factor, and no other.
+    let shown = [("RC", "RC 03 00010012")];
+    assert_eq!(may_hold(&shown, fields::RECIPE), few(&[3]));
+    assert_eq!(may_hold(&shown, factor), Numbers::Just(10_012));
+    assert_eq!(may_hold(&shown, factor + 6), Numbers::Any);
+    // SB's OK tells what is set, and nothing of a batch number that was not known.
+    let batch = [("SB 000500", "OK")];
+    assert_eq!(may_hold(&batch, fields::PHASE), few(&[1]));
+    assert_eq!(may_hold(&batch, fields::KEYPAD), few(&[0]));
+    assert_eq!(may_hold(&batch, fields::BATCH_RESET), few(&[1]));
+    assert_eq!(may_hold(&batch, fields::PRESET), Numbers::Just(500));
+    assert_eq!(may_hold(&batch, fields::RAW), Numbers::Just(0));
+    assert_eq!(may_hold(&batch, fields::NUMBER), Numbers::Any);
+    let numbered = [("TN", "TN 9999"), batch[0]];
+    assert_eq!(may_hold(&numbered, fields::NUMBER), Numbers::Just(1));
+    assert_eq!(may_hold(&[("SB 5", "NO05")], fields::PRESET), Numbers::Any);
+    // A write over a value that is not known leaves the flag open; one that is on stays on.
+    let write = ("PC 032 10150", "OK");
+    assert_eq!(may_hold(&[write], factor), Numbers::Just(10_150));
+    assert_eq!(
+        may_hold(&[("EQ", "000000"), write], fields::CHANGED),
+        few(&[0, 1])
+    );
+    assert_eq!(
+        may_hold(&[("EQ", "000800"), write], fields::CHANGED),
+        few(&[1])
+    );
+    // Levels: passed, not passed, and an XC whose l is above the access.
+    assert_eq!(may_hold(&[write], level), few(&[0, 1, 2]));
+    assert_eq!(may_hold(&[("PC 032 10150", "NO07")], level), few(&[3]));
+    assert_eq!(may_hold(&[("XC 032 3", "NO07")], level), few(&[0, 1, 2, 3]));
+    assert_eq!(may_hold(&[("XC 032 3", "NO07")], fields::KEYPAD), few(&[0]));
+    assert_eq!(may_hold(&[("XC 032 1", "OK")], level), few(&[1]));
+    // SP's NO05 tells nothing of the keypad, SA's does.
+    assert_eq!(may_hold(&[("SP", "NO05")], fields::KEYPAD), few(&[0, 1]));
+    assert_eq!(
+        may_hold(&[("SP", "NO05")], fields::PHASE),
+        few(&[0, 1, 3, 4])
+    );
+    assert_eq!(may_hold(&[("SA", "NO05")], fields::KEYPAD), few(&[0]));
+}
+
+#[test]
+fn known_of_alarms() {
+    let [alarm, reset] = [("EQ", "001000"), ("AR", "OK")];
+    let on = |exchanges: &[(&str, &str)]| may_hold(exchanges, fields::ALARMS);
+    let some = |among| Numbers::Alarms(Alarms::SomeOf(among));
+    let any = |among| Numbers::Alarms(Alarms::AnyOf(among));
+    assert_eq!(on(&[alarm]), some(alarms::ALL));
+    assert_eq!(on(&[alarm, reset]), any(alarms::LASTING));
+    assert_eq!(on(&[reset, alarm]), some(alarms::LASTING));
+    assert_eq!(on(&[reset, alarm, reset]), some(alarms::LASTING));
+    let exactly = |alarms| Numbers::Alarms(Alarms::Exactly(alarms));
+    let both = alarms::numbered(1) | alarms::numbered(12);
+    assert_eq!(on(&[("EA", "80100")]), exactly(both));
+    assert_eq!(on(&[("EA", "80100"), reset]), exactly(alarms::numbered(1)));
+    assert_eq!(on(&[("SA", "OK")]), exactly(0));
+}
+
+#[test]
+fn reasons() {
+    let factor = fields::value(factor_place(3));
+    let write = ("PC 032 10150", "OK");
+    let field = |field, held, needed| Reason::Field {
+        field,
+        held,
+        needed,
+    };
+    let old_factor = field(factor, Numbers::Just(10_150), Numbers::Just(10_012));
+    assert_eq!(
+        reason(&[("EQ", "000000"), write, ("RC", "RC 03 00010012")]),
+        old_factor
+    );
+    // No phase is left; the keypad is on.
+    let no_phase = [("SP", "NO05"), ("SA", "NO05"), ("SB 500", "NO05")];
+    let expected = field(fields::PHASE, few(&[0, 4]), few(&[1, 2, 3]));
+    assert_eq!(reason(&no_phase), expected);
+    let keypad = field(fields::KEYPAD, few(&[1]), few(&[0]));
+    assert_eq!(reason(&[("SA", "NO02"), ("SB 1", "NO05")]), keypad);
+    // What an accepted write needs is what was before it.
+    let needs = field(fields::PHASE, few(&[1]), few(&[0, 4]));
+    assert_eq!(reason(&[("EQ", "100000"), ("SB 1", "OK")]), needs);
+    // Of phase, keypad and alarms the first is named.
+    let needs = field(fields::PHASE, few(&[0]), few(&[1, 3]));
+    assert_eq!(reason(&[("EQ", "801000"), ("SA", "OK")]), needs);
+    let alarm = field(
+        fields::ALARMS,
+        Numbers::Alarms(Alarms::SomeOf(alarms::ALL)),
+        Numbers::Alarms(Alarms::Exactly(0)),
+    );
+    assert_eq!(reason(&[("EQ", "101000"), ("SA", "OK")]), alarm);
+    let level = field(fields::level(factor_place(3)), few(&[3]), few(&[0, 1, 2]));
+    assert_eq!(reason(&[("XV 032", "XV 032 3"), write]), level);
+    // No record shows such a number, refuses so, or has another address.
+    for exchange in [
+        ("TN", "TN 0000"),
+        ("RR", "RR 09"),
+        ("XV 032", "XV 032 4"),
+        ("EQ", "400000"),
+        ("RS", "RS RL "),
+        ("SP", "NO02"),
+        ("QQ", "OK"),
+        ("EA", "00008"),
+        ("TN", "TN 1"),
+    ] {
+        assert_eq!(reason(&[exchange]), Reason::NoRecord, "{exchange:?}");
+    }
+}
+
+/// The reason of a recording of one exchange, of any bytes.
+fn reason_alone(request: &[u8], reply: &[u8]) -> Reason {
+    let bytes = recording::build(1, 2, &[(request.to_vec(), reply.to_vec())]);
+    let told = Told::by(&bytes, Fault::None);
+    told.why(Fault::None).unwrap().unwrap().1
+}
+
+#[test]
+fn reasons_of_silences_and_frames() {
+    let [asked, reply] = [EQ, EQ_REPLY].map(bytes);
+    assert_eq!(reason_alone(&asked, &[]), Reason::NoReply);
+    for (request, number) in [
+        (bytes(&EQ[..3 * 7 - 1]), 3),
+        (vec![], 3),
+        (bytes("03 30 31 45 51 03 16 7F"), 4),
+        (bytes(WRONG_CHECK), 5),
+        (bytes("02 30 31 45 1F 03 58 7F"), 6),
+        (bytes("02 30 31 45 71 03 36 7F"), 7),
+        (bytes(OTHER_ADDRESS), 8),
+    ] {
+        let expected = Reason::ReplyToSilence(number);
+        assert_eq!(reason_alone(&request, &reply), expected, "{request:02X?}");
+    }
+    // Another address in the reply, a wrong check, a byte more, no frame.
+    for wrong in [
+        framed(Kind::Minicomputer, b"02000000"),
+        framed(Kind::Terminal, b"01000000"),
+        bytes(WRONG_CHECK),
+        [&reply[..], &[0x7F]].concat(),
+        vec![0],
+    ] {
+        assert_eq!(
+            reason_alone(&asked, &wrong),
+            Reason::NoRecord,
+            "{wrong:02X?}"
+        );
+    }
+}
+
+fn example(file: &str) -> Vec<u8> {
+    let root = Path::new(env!("CARGO_MANIFEST_DIR")).join("..");
+    fs::read(root.join(file)).unwrap()
+}
+
+/// Exchange 14 shows the old factor of recipe 3, which since exchange 11 can only be the new one.
+#[test]
+fn monday_drum_change() {
+    let monday = example("examples/monday_drum_change.recording");
+    let told = Told::by(&monday, Fault::None);
+    let factor = fields::value(factor_place(3));
+    let expected = Reason::Field {
+        field: factor,
+        held: Numbers::Just(10_150),
+        needed: Numbers::Just(10_012),
+    };
+    assert_eq!(told.why(Fault::None), Ok(Some((14, expected))));
+    let known = |exchanges| told.known(exchanges, FIELDS, Fault::None);
+    assert_eq!(known(10).unwrap()[factor], Numbers::Just(10_012));
+    assert_eq!(known(11).unwrap()[factor], Numbers::Just(10_150));
+    assert_eq!(known(13).unwrap()[factor], Numbers::Just(10_150));
+    for exchanges in [14, 20, 21, usize::MAX] {
+        assert_eq!(known(exchanges), Err(Untold::Refuted(14)));
+    }
+    let short = told.known(0, FIELDS - 1, Fault::None);
+    assert_eq!(short, Err(Untold::ShortBuffer));
+    // The recipe since NR, the flag since RE, the other recipe's factor since RC, the level since XV.
+    let since = told.since(13);
+    assert_eq!((since[factor], told.since(10)[factor]), (11, 8));
+    assert_eq!((since[fields::RECIPE], since[fields::CHANGED]), (6, 13));
+    assert_eq!(since[fields::value(factor_place(5))], 5);
+    assert_eq!(since[fields::level(factor_place(3))], 10);
+    assert_eq!((since[fields::PHASE], since[fields::ALARMS]), (1, 1));
+    assert_eq!((since[fields::PRESET], since[fields::ADDRESS]), (0, 0));
+}
+
+/// The form comes before all else, also behind a refutation.
+#[test]
+fn told_of_a_recording_that_is_cut() {
+    let told = Told::by(
+        &example("examples/cut_by_the_recorder.recording"),
+        Fault::None,
+    );
+    assert_eq!(told.why(Fault::None), Err(5));
+    for exchanges in [0, 14, 20] {
+        let known = told.known(exchanges, FIELDS, Fault::None);
+        assert_eq!(known, Err(Untold::Refused(5)));
+    }
+}
+
+/// From exchange to exchange over the sets alone, an honest day comes to what is known of it.
+#[test]
+fn learnt_from_sets_alone() {
+    for file in ["honest_day", "morning_reload", "alarm_stays_on"] {
+        let day = example(&format!("examples/{file}.recording"));
+        let told = Told::by(&day, Fault::None);
+        let recording = recording::read(&day, Fault::None).unwrap();
+        let written = |exchanges| {
+            let known = told.known(exchanges, FIELDS, Fault::None).unwrap();
+            known.map(Numbers::written)
+        };
+        let mut sets = written(0);
+        for (before, &exchange) in recording.exchanges.iter().enumerate() {
+            let (address, access) = (recording.address, recording.access);
+            let answer = interface::learn(address, access, exchange, &mut sets, Fault::None);
+            assert_eq!((answer, sets), (0, written(before + 1)), "{file}");
+        }
+        let mut short = sets[1..].to_vec();
+        let answer = interface::learn(1, 2, recording.exchanges[0], &mut short, Fault::None);
+        assert_eq!((answer, &short[..]), (401, &sets[1..]));
+    }
+}
+
+/// The answers that the example recordings are given beside them, and all that they tell.
 #[test]
 fn example_recordings() {
     let root = Path::new(env!("CARGO_MANIFEST_DIR")).join("..");
@@ -743,12 +1016,14 @@ fn example_recordings() {
     assert!(!expected.is_empty());
     for line in expected.lines() {
         let (file, answer) = line.split_once(": ").unwrap();
-        let bytes = fs::read(root.join(file)).unwrap();
+        let bytes = example(file);
         let judged = match judge(&bytes, Fault::None) {
             Judgement::Fits { count } => format!("fits {count}"),
             Judgement::Refuted { place, count } => format!("refuted at {place} of {count}"),
             Judgement::Refused(number) => format!("refused J{number}"),
         };
         assert_eq!(judged, answer, "{file}");
+        let told = Comparison::new(Fault::None).told(&bytes);
+        assert!(told.is_ok(), "{file}: {}", told.unwrap_err());
     }
 }

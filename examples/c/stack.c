@@ -1,6 +1,6 @@
-/* Runs the functions on a stack that was painted before, and prints how much of it was written over: all but khuyapesh_board,
- * and that by itself. Status 1 if it is not under KHUYAPESH_STACK and KHUYAPESH_BOARD_STACK, or if an answer is not the
- * expected one. */
+/* Runs the functions on a stack that was painted before, and prints how much of it was written over: by most of them, by
+ * khuyapesh_board, and by those that tell what a recording does. Status 1 if it is not under KHUYAPESH_STACK,
+ * KHUYAPESH_BOARD_STACK and KHUYAPESH_TELL_STACK, or if an answer is not the expected one. */
 #define _XOPEN_SOURCE 700
 #include <stdio.h>
 #include <string.h>
@@ -28,17 +28,21 @@ static void change_drum(uint8_t *stored)
     expected &= answer == KHUYAPESH_DONE;
 }
 
-/* Every function but khuyapesh_board: a drum change; requests that are read, written and refused, their replies recorded and
- * judged; then the same requests end to end. */
+/* A drum change; requests that are read, written and refused, their replies recorded and judged; then the same requests end
+ * to end. The recording stays, for what follows. */
+static uint8_t recording[2048];
+static size_t recorded;
+
 static void work(void)
 {
     static const char *const texts[] = {"01EQ", "01RS", "01RC", "01PC 032 10150", "01XC 011 0", "01SB 500", "01SA", "01QQ",
                                         "01EA", "01AR"};
     static uint8_t stored[KHUYAPESH_STORED_LENGTH], copy[KHUYAPESH_STORED_LENGTH];
     static uint8_t request[KHUYAPESH_FRAME_ROOM], reply[KHUYAPESH_FRAME_ROOM], text[KHUYAPESH_FRAME_ROOM];
-    static uint8_t recording[2048], stream[1024], replies[1024];
-    size_t recorded = 5, streamed = 0, place, count, index, taken, answered, written;
+    static uint8_t stream[1024], replies[1024];
+    size_t streamed = 0, place, count, index, taken, answered, written;
 
+    recorded = 5;
     khuyapesh_stored(stored, 0, copy, sizeof copy);
     change_drum(copy);
     khuyapesh_stored(copy, 0, stored, sizeof stored);
@@ -67,6 +71,36 @@ static void work(void)
     expected &= khuyapesh_panel(KHUYAPESH_PULSES, 500, stored, sizeof stored) == KHUYAPESH_DONE;
     expected &= khuyapesh_panel(KHUYAPESH_ALARM_ON, 19, stored, sizeof stored) == KHUYAPESH_DONE;
     expected &= khuyapesh_stored(stored, sizeof stored, copy, sizeof copy) == KHUYAPESH_DONE;
+}
+
+/* What a recording that fits tells, exchange by exchange and at once; then why it is refuted with its first exchange once
+ * more at its end, where the phase is another. */
+static void tell(void)
+{
+    static uint32_t sets[KHUYAPESH_FIELDS], learnt[KHUYAPESH_FIELDS];
+    size_t length = recorded, at = 5, count = 0, first = 0, place, request, stop, reply, end;
+    uint32_t number, held, needed;
+
+    expected &= khuyapesh_known(recording, recorded, 0, learnt, KHUYAPESH_FIELDS, &place) == KHUYAPESH_DONE;
+    while (khuyapesh_exchange(recording, recorded, at, &request, &stop, &reply, &end) == KHUYAPESH_DONE) {
+        expected &= khuyapesh_learn(recording[3], recording[4], recording + request, stop - request, recording + reply,
+                                    end - reply, learnt, KHUYAPESH_FIELDS) == KHUYAPESH_FITS;
+        if (count++ == 0)
+            first = end - at;
+        at = end;
+    }
+    expected &= khuyapesh_known(recording, recorded, count, sets, KHUYAPESH_FIELDS, &place) == KHUYAPESH_DONE;
+    expected &= memcmp(sets, learnt, sizeof sets) == 0;
+    expected &= khuyapesh_may_hold(KHUYAPESH_PHASE, sets[KHUYAPESH_PHASE], 2) == 1;
+
+    memcpy(recording + length, recording + 5, first);
+    length += first;
+    recording[1] = (uint8_t)(length >> 8);
+    recording[2] = (uint8_t)length;
+    expected &= khuyapesh_why(recording, length, &place, &number, &held, &needed) == KHUYAPESH_FIELD;
+    expected &= place == count + 1 && number == KHUYAPESH_PHASE && held == sets[KHUYAPESH_PHASE] && needed == 1;
+    recording[1] = (uint8_t)(recorded >> 8);
+    recording[2] = (uint8_t)recorded;
 }
 
 /* A full board, with requests to its last record that are read, written and refused. */
@@ -114,9 +148,10 @@ static size_t taken_by(void (*task)(void))
 
 int main(void)
 {
-    size_t used = taken_by(work), used_on_board = taken_by(work_on_board);
+    size_t used = taken_by(work), used_to_tell = taken_by(tell), used_on_board = taken_by(work_on_board);
 
-    printf("stack: %lu of %d bytes, with a board %lu of %d\n", (unsigned long)used, KHUYAPESH_STACK,
-           (unsigned long)used_on_board, KHUYAPESH_BOARD_STACK);
-    return !expected || used >= KHUYAPESH_STACK || used_on_board >= KHUYAPESH_BOARD_STACK;
+    printf("stack: %lu of %d bytes, to tell %lu of %d, with a board %lu of %d\n", (unsigned long)used, KHUYAPESH_STACK,
+           (unsigned long)used_to_tell, KHUYAPESH_TELL_STACK, (unsigned long)used_on_board, KHUYAPESH_BOARD_STACK);
+    return !expected || used >= KHUYAPESH_STACK || used_to_tell >= KHUYAPESH_TELL_STACK ||
+           used_on_board >= KHUYAPESH_BOARD_STACK;
 }

@@ -1,7 +1,8 @@
 //! What is enumerated and not sampled: every refusal against every phase, keypad, access and level,
 //! every combination of damages to a frame, every byte of a stored form, every parameter code, every
 //! alarm, every parameter rewritten, every pair of telling exchanges, every cut of a stream, every
-//! place on a board, every damage to a reply in a drum change.
+//! place on a board, every damage to a reply in a drum change, every reply to every command where much or
+//! nothing is known.
 
 mod alarms;
 mod board;
@@ -9,6 +10,7 @@ mod calls;
 mod changed;
 mod drum;
 mod frames;
+mod known;
 mod parameters;
 mod recordings;
 mod records;
@@ -41,7 +43,8 @@ pub fn enumerate(comparison: &mut Comparison) -> Result<(), Difference> {
     alarms::alarm_events(comparison)?;
     alarms::stored_alarms(comparison)?;
     board::boards(comparison)?;
-    drum::drum_changes(comparison)
+    drum::drum_changes(comparison)?;
+    known::tellings(comparison)
 }
 
 /// The bytes of a lent buffer, told apart so that a moved one is seen.

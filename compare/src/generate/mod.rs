@@ -5,6 +5,7 @@ pub mod drum_changes;
 pub mod host;
 pub mod recordings;
 pub mod records;
+pub mod refutations;
 pub mod requests;
 pub mod stored_forms;
 pub mod streams;

@@ -13,7 +13,7 @@ use crate::recording;
 pub type Exchanges = Vec<(Vec<u8>, Vec<u8>)>;
 
 /// One exchange as the controller makes it.
-fn exchange(record: &mut Record, request: Vec<u8>) -> (Vec<u8>, Vec<u8>) {
+pub fn exchange(record: &mut Record, request: Vec<u8>) -> (Vec<u8>, Vec<u8>) {
     let mut buffer = [0; 64];
     let (outcome, after) = controller::call(
         *record,
@@ -44,7 +44,7 @@ fn honest(random: &mut Random, count: usize) -> (u8, u8, Exchanges) {
 }
 
 /// Another reply that a controller might have given.
-fn another_reply(random: &mut Random, address: u8, reply: &[u8]) -> Vec<u8> {
+pub fn another_reply(random: &mut Random, address: u8, reply: &[u8]) -> Vec<u8> {
     let Ok(text) = frame::open(Kind::Minicomputer, reply, Fault::None) else {
         let answer = random.pick(&["OK", "NO00", "NO01", "000000", "RS ", "00000"]);
         let text = format!("{address:02}{answer}");
@@ -115,7 +115,7 @@ fn another_reply(random: &mut Random, address: u8, reply: &[u8]) -> Vec<u8> {
 }
 
 /// Values to be written to a parameter: the one that it holds, the ends and the middle of its range.
-fn telling_values(record: &Record, place: usize) -> [u32; 4] {
+pub fn telling_values(record: &Record, place: usize) -> [u32; 4] {
     let (low, high) = VALUE_RANGES[place];
     let held = record.parameters[place].value;
     [held, low, high, (low + high) / 2]

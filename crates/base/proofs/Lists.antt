@@ -1,12 +1,13 @@
--- Laws of lists: the rest from a place on, and a list laid over another. Assumes nothing.
-use Prim.Native.Nat.{ℕ, suc, _+_, _-_, _≤_, _<_}
+-- Laws of lists: the rest from a place on, a list laid over another, and the loop that copies one. Assumes nothing.
+use Prim.Native.Nat.{ℕ, zero, suc, _+_, _-_, _≤_, _<_}
 use mathlib.Core.Path.{_≡_, refl, sym, ap, _∙_}
 use mathlib.Core.List.{List, [], _∷_, _++_, append-assoc, append-nil}
 use mathlib.Core.Logic.{⊎-elim}
+use native.Mathlib.Nat.{le-of-suc-le-suc, not-suc-le-zero}
 use native.Mathlib.Numerals.{add-one}
 use native.Mathlib.Omega.{arith}
 use lib.ListN.{length, take, drop, getD, set, length-append, length-drop, length-take, drop-of-length-le}
-use lib.Seq.{drop-cons, drop-at, drop-drop, length-take-le, paste-zero, set-append-seam, set-split, take-all, take-at}
+use lib.Seq.{drop-cons, drop-at, drop-drop, length-take-le, paste-zero, set-append-seam, set-split, take-all, take-at, take-length}
 use borrow.Rule.Slice.PartMut.{putMid}
 use Rattle.base.specs.Lists.{over, overAt}
 use Rattle.base.proofs.Tests.{below-or-not}
@@ -60,6 +61,25 @@ over-over f p o h =
 pub over-all : (f o : List ℕ) → length o ≤ length f → over f o ≡ f
 unfolding over
 over-all f o h = ap (λ (t : List ℕ). f ++ t) (drop-of-length-le o h) ∙ append-nil f
+
+-- ---- a loop that copies one list over the start of another
+
+-- a turn's store takes the copy of i elements to the copy of one more
+store : (s d : List ℕ) (i : ℕ) → i < length s → i < length d → set (take i s ++ drop i d) i (getD s i 0) ≡ take (suc i) s ++ drop (suc i) d
+store [] d i h k = absurd (not-suc-le-zero h)
+store (x ∷ s) [] i h k = absurd (not-suc-le-zero k)
+store (x ∷ s) (y ∷ d) zero h k = refl
+store (x ∷ s) (y ∷ d) (suc i) h k = ap (λ (l : List ℕ). x ∷ l) (store s d i (le-of-suc-le-suc h) (le-of-suc-le-suc k))
+
+pub copy-again : (s d₀ d : List ℕ) (i : ℕ) → i < length s → i < length d₀ → d ≡ take i s ++ drop i d₀
+    → set d i (getD s i 0) ≡ take (i + 1) s ++ drop (i + 1) d₀
+copy-again s d₀ d i h k e = ap (λ (l : List ℕ). set l i (getD s i 0)) e ∙ store s d₀ i h k ∙ ap (λ (n : ℕ). take n s ++ drop n d₀) (sym (add-one i))
+
+pub copy-done : (s d₀ d : List ℕ) (i : ℕ) → i ≤ length s → length s ≤ i → d ≡ take i s ++ drop i d₀ → d ≡ over s d₀
+unfolding over
+copy-done s d₀ d i h k e =
+    let n : i ≡ length s = omega arith in
+    e ∙ ap (λ (m : ℕ). take m s ++ drop m d₀) n ∙ ap (λ (l : List ℕ). l ++ drop (length s) d₀) (take-length s)
 
 -- ---- laid over a list from a place on
 pub over-at-none : (at : ℕ) (s : List ℕ) → overAt at [] s ≡ s

@@ -13,9 +13,9 @@ use Rattle.state.specs.declared.Record.{Record}
 use Rattle.base.specs.Test.{pick}
 use Rattle.state.specs.Alarm.{lasting}
 use Rattle.state.specs.Parameter.{parameterCount, rangeAt}
-use Rattle.state.specs.Field.{Field, access, changed, number, alarms, value, get, put, position, fieldRange}
+use Rattle.state.specs.Field.{Field, access, changed, number, alarms, value, get, put, position, fieldRange, Held}
 use Rattle.state.specs.Valid.{within, valid}
-use Rattle.state.proofs.Fields.{Held, at-field, get-put-other}
+use Rattle.state.proofs.Fields.{at-field, get-put-other}
 use Rattle.state.proofs.Kept.{get-put-own, put-kept, next-in, lasting-in, reset-kept, flag-in, replaced-kept}
 use Rattle.state.specs.Event.{nextNumber, flagAfter}
 use Rattle.command.specs.Commands.{Change, becomes, nextBatch, resetAlarms, newValue, afterChange, applied}

@@ -3,3 +3,4 @@ pub mod Theorems
 pub mod Boards
 pub mod Judged
 pub mod Drums
+pub mod Tells

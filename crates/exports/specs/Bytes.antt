@@ -12,6 +12,7 @@ use Rattle.state.specs.declared.Record.{Record}
 use Rattle.state.specs.declared.Event.{Event}
 use Rattle.state.specs.declared.Event.the-variants.{Pulses, Still, KeypadOn, KeypadOff, PowerBack, AlarmOn, AlarmOff}
 use Rattle.state.specs.Event.{after}
+use Rattle.state.specs.Field.{fieldCount, flagNumber}
 use Rattle.stored.specs.Layout.{current}
 use Rattle.stored.specs.Form as stored
 use Rattle.stored.specs.Form.{K, done, storedLength, storedForm}
@@ -29,7 +30,17 @@ use Rattle.drum.specs.Drum.{Told, Q, short, request, end, stop}
 use Rattle.drumstate.specs.State as drumstate
 use Rattle.recording.specs.Replay.{fits, refuted}
 use Rattle.recording.specs.Statement.{Judgement, judged, refused}
+use Rattle.recording.specs.declared.Next.{Next}
+use Rattle.recording.specs.declared.Next.the-variants as next
+use Rattle.knowledge.specs.declared.Knowledge.{Knowledge}
+use Rattle.knowledge.specs.Knowledge.{roomFor, lentIn, mayHold}
+use Rattle.hearing.specs.Hearing.{exchange, exchangeLearnt}
+use Rattle.reason.specs.declared.Reason.{Reason}
+use Rattle.reason.specs.declared.Reason.the-variants as reason
+use Rattle.judging.specs.Judge.{Telling, unread, broken, sets, knownOf, Caused, unexplained, fitting, because}
 use Rattle.exports.specs.declared.Numbers.{Numbers}
+use Rattle.exports.specs.declared.WhyNumbers.{WhyNumbers}
+use Rattle.exports.specs.declared.Found.{Found}
 
 -- ---- the numbers
 
@@ -207,3 +218,60 @@ unfoldable pub judgeNumbers : Judgement → ℕ × (ℕ × ℕ)
 judgeNumbers (judged (fits n)) = (0, (0, n))
 judgeNumbers (judged (refuted i n)) = (1, (i, n))
 judgeNumbers (refused n) = (500 + n, (0, 0))
+
+-- ---- khuyapesh_known: the answer, the place and the sets
+abbrev pub knownLeft : Telling × List ℕ → List ℕ → ℕ × (ℕ × List ℕ)
+knownLeft (unread n, cs) o = (500 + n, (0, o))
+knownLeft (broken i, cs) o = (1, (i, o))
+knownLeft (sets, cs) o = (0, (0, over cs o))
+
+-- "H1 for under KHUYAPESH_FIELDS sets, then J1 to J5"
+unfoldable pub knownNumbers : List ℕ → ℕ → List ℕ → ℕ × (ℕ × List ℕ)
+knownNumbers bs k o = unless (roomFor o) (401, (0, o)) (knownLeft (knownOf bs k) o)
+
+-- ---- khuyapesh_learn: the answer and the sets
+abbrev pub learntLeft : Knowledge → List ℕ → ℕ × List ℕ
+learntLeft k o = pick (k .alive) (0, over (k .codes) o) (1, o)
+
+unfoldable pub learnNumbers : ℕ → ℕ → List ℕ → List ℕ → List ℕ → ℕ × List ℕ
+learnNumbers a c q reply o = unless (roomFor o) (401, o) (learntLeft (exchangeLearnt a c (lentIn o) (exchange q reply)) o)
+
+-- ---- khuyapesh_may_hold
+abbrev pub mayHoldNumber : ℕ → ℕ → ℕ → ℕ
+mayHoldNumber field set n = flagNumber (mayHold field set n)
+
+-- ---- khuyapesh_why: the answer, the place, the number, what is held and what is needed
+abbrev pub reasonNumbers : ℕ → Reason → ℕ × (ℕ × (ℕ × (ℕ × ℕ)))
+reasonNumbers i (reason.Answered n) = (1, (i, (n, (0, 0))))
+reasonNumbers i reason.Unanswered = (2, (i, (0, (0, 0))))
+reasonNumbers i reason.Impossible = (3, (i, (0, (0, 0))))
+reasonNumbers i (reason.Field f held needed) = (4, (i, (f, (held, needed))))
+
+-- the code's numbers as these, and that a number has room for a field's
+abbrev pub whyAs : WhyNumbers → ℕ × (ℕ × (ℕ × (ℕ × ℕ)))
+whyAs x = (x .answer, (x .place, (x .number, (x .held, x .needed))))
+
+abbrev pub Numbered : Reason → Type 0
+Numbered (reason.Answered n) = Unit {0}
+Numbered reason.Unanswered = Unit {0}
+Numbered reason.Impossible = Unit {0}
+Numbered (reason.Field f held needed) = f ≤ fieldCount
+
+abbrev pub NumberedBy : Caused → Type 0
+NumberedBy (unexplained n) = Unit {0}
+NumberedBy (fitting n) = Unit {0}
+NumberedBy (because i n why) = Numbered why
+
+unfoldable pub whyNumbers : Caused → ℕ × (ℕ × (ℕ × (ℕ × ℕ)))
+whyNumbers (unexplained n) = (500 + n, (0, (0, (0, 0))))
+whyNumbers (fitting n) = (0, (0, (0, (0, 0))))
+whyNumbers (because i n why) = reasonNumbers i why
+
+-- ---- khuyapesh_exchange: the answer, and where the request and the reply are
+unfoldable pub exchangeNumbers : Next → ℕ × (ℕ × (ℕ × (ℕ × ℕ)))
+exchangeNumbers next.End = (1, (0, (0, (0, 0))))
+exchangeNumbers next.Cut = (505, (0, (0, (0, 0))))
+exchangeNumbers (next.Exchange p) = (0, (p .request, (p .stop, (p .reply, p .end))))
+
+abbrev pub foundAs : Found → ℕ × (ℕ × (ℕ × (ℕ × ℕ)))
+foundAs x = (x .answer, (x .spans .request, (x .spans .stop, (x .spans .reply, x .spans .end))))

@@ -4,7 +4,13 @@ use frame::Built;
 use frame::Kind;
 use frame::Silence;
 use frame::TextRead;
+use judging::Cause;
 use judging::Judgement;
+use judging::Told;
+use knowledge::FIELDS;
+use reason::Reason;
+use recording::Next;
+use recording::Spans;
 use several::Report;
 use state::Event;
 use state::Record;
@@ -21,8 +27,9 @@ ghost use Rattle.several.specs.Several.{severalOf};
 ghost use Rattle.drum.specs.Numbers.{toldAs};
 ghost use Rattle.drum.specs.Turns.{sizeTold};
 ghost use Rattle.drumstate.specs.State.{beginOf, takeOf};
-ghost use Rattle.judging.specs.Judge.{judgementOf};
-ghost use Rattle.exports.specs.Bytes.{silenceAnswer, storedAnswer, hostAnswer, kindOf, eventOf, openAnswer, openOf, callLeft, callBytes, severalNumbers, severalAs, severalLeft, severalBytes, heardAnswer, boardAnswer, answerLeft, Tellable, boardBytes, panelBytes, storedBytes, buildBytes, readBytes, drumAnswer, drumLeft, judgeNumbers};
+ghost use Rattle.recording.specs.Form.{exchangeAt};
+ghost use Rattle.judging.specs.Judge.{judgementOf, causedAs, whyOf};
+ghost use Rattle.exports.specs.Bytes.{silenceAnswer, storedAnswer, hostAnswer, kindOf, eventOf, openAnswer, openOf, callLeft, callBytes, severalNumbers, severalAs, severalLeft, severalBytes, heardAnswer, boardAnswer, answerLeft, Tellable, boardBytes, panelBytes, storedBytes, buildBytes, readBytes, drumAnswer, drumLeft, judgeNumbers, knownNumbers, learnNumbers, mayHoldNumber, Numbered, NumberedBy, whyAs, reasonNumbers, whyNumbers, foundAs, exchangeNumbers};
 
 // ---- the numbers that are answered
 
@@ -54,25 +61,16 @@ const LAST_EVENT: u8 = 6;
 // No room for the form that is written.
 const NO_ROOM: u32 = STORED + 6;
 
-fn silence_number(why: Silence) -> u32
-    ensures { λ n. ⌜ (n ≡ silenceNumber why) × (n ≤ 8) ⌝ }
-{
-    match why {
-        Silence::InvalidRecord => 1,
-        Silence::ShortReplyBuffer => 2,
-        Silence::FrameLength => 3,
-        Silence::Mark => 4,
-        Silence::Check => 5,
-        Silence::TextByte => 6,
-        Silence::AddressOrCode => 7,
-        Silence::OtherAddress => 8,
-    }
-}
+// No room for the sets.
+const SHORT_BUFFER: u32 = HOST + 1;
+
+// An exchange that is cut by the end.
+const CUT: u32 = RECORDING + 5;
 
 fn silence_answer(why: Silence) -> u32
     ensures { λ n. ⌜ n ≡ silenceAnswer (silenceNumber why) ⌝ }
 {
-    SILENT + silence_number(why)
+    SILENT + base::wide(frame::number_of(why))
 }
 
 fn refusal_answer(why: Refusal) -> u32
@@ -439,4 +437,188 @@ pub extern "C" fn khuyapesh_judge(recording: &[u8], place: &mut usize, count: &m
             RECORDING + base::wide(recording::number_of(refusal))
         }
     }
+}
+
+// ---- what a recording tells
+
+// What is known of the record after the first exchanges.
+#[no_mangle]
+pub extern "C" fn khuyapesh_known(
+    recording: &[u8],
+    exchanges: usize,
+    sets: &mut [u32],
+    place: &mut usize,
+) -> u32
+    ensures { λ n. ⌜ (n, (now (place .exit), now (sets .exit))) ≡ knownNumbers (now (recording .entry)) exchanges (now (sets .entry)) ⌝ }
+{
+    *place = 0;
+    if sets.len() < FIELDS {
+        return SHORT_BUFFER;
+    }
+    let known = judging::known(recording, exchanges);
+    let told = known.told;
+    let codes = known.codes;
+    match told {
+        Told::Refused(refusal) => RECORDING + base::wide(recording::number_of(refusal)),
+        Told::Refuted(i) => {
+            *place = i;
+            1
+        }
+        Told::Sets => {
+            knowledge::lay(codes, sets);
+            0
+        }
+    }
+}
+
+// One exchange more: from the sets before it, those after it.
+#[no_mangle]
+pub extern "C" fn khuyapesh_learn(
+    address: u8,
+    access: u8,
+    request: &[u8],
+    reply: &[u8],
+    sets: &mut [u32],
+) -> u32
+    ensures { λ n. ⌜ (n, now (sets .exit)) ≡ learnNumbers address access (now (request .entry)) (now (reply .entry)) (now (sets .entry)) ⌝ }
+{
+    if sets.len() < FIELDS {
+        return SHORT_BUFFER;
+    }
+    let after = hearing::learn(knowledge::lent(sets), address, access, request, reply, true);
+    if !after.alive {
+        return 1;
+    }
+    let codes = after.codes;
+    knowledge::lay(codes, sets);
+    0
+}
+
+// Whether the set of a field has a number.
+#[no_mangle]
+pub extern "C" fn khuyapesh_may_hold(field: usize, set: u32, number: u32) -> u32
+    ensures { λ n. ⌜ n ≡ mayHoldNumber field set number ⌝ }
+{
+    if knowledge::may_hold(field, set, number) {
+        return 1;
+    }
+    0
+}
+
+// The answer, and what is told beside it.
+struct WhyNumbers {
+    pub answer: u32,
+    pub place: usize,
+    pub number: u32,
+    pub held: u32,
+    pub needed: u32,
+}
+
+fn why_numbers(answer: u32, place: usize, number: u32, held: u32, needed: u32) -> WhyNumbers
+    ensures { λ x. ⌜ x ≡ record { answer = answer; place = place; number = number; held = held; needed = needed } ⌝ }
+{
+    WhyNumbers {
+        answer: answer,
+        place: place,
+        number: number,
+        held: held,
+        needed: needed,
+    }
+}
+
+fn reason_numbers(place: usize, why: Reason) -> WhyNumbers
+    requires { ⌜ Numbered why ⌝ }
+    ensures { λ x. ⌜ whyAs x ≡ reasonNumbers place why ⌝ }
+{
+    match why {
+        Reason::Answered(n) => why_numbers(1, place, base::wide(n), 0, 0),
+        Reason::Unanswered => why_numbers(2, place, 0, 0, 0),
+        Reason::Impossible => why_numbers(3, place, 0, 0, 0),
+        Reason::Field(field, held, needed) => why_numbers(4, place, field as u32, held, needed),
+    }
+}
+
+fn cause_numbers(cause: Cause) -> WhyNumbers
+    requires { ⌜ NumberedBy (causedAs cause) ⌝ }
+    ensures { λ x. ⌜ whyAs x ≡ whyNumbers (causedAs cause) ⌝ }
+{
+    match cause {
+        Cause::Refused(refusal) => {
+            let answer = RECORDING + base::wide(recording::number_of(refusal));
+            why_numbers(answer, 0, 0, 0, 0)
+        }
+        Cause::Fits(_) => why_numbers(0, 0, 0, 0, 0),
+        Cause::Refuted(place, _, why) => reason_numbers(place, why),
+    }
+}
+
+// Why a recording is refuted.
+#[no_mangle]
+pub extern "C" fn khuyapesh_why(
+    recording: &[u8],
+    place: &mut usize,
+    number: &mut u32,
+    held: &mut u32,
+    needed: &mut u32,
+) -> u32
+    ensures { λ n. ⌜ (n, (now (place .exit), (now (number .exit), (now (held .exit), now (needed .exit))))) ≡ whyNumbers (whyOf (now (recording .entry))) ⌝ }
+{
+    let why = cause_numbers(judging::why(recording));
+    *place = why.place;
+    *number = why.number;
+    *held = why.held;
+    *needed = why.needed;
+    why.answer
+}
+
+// The answer, and where the exchange has its request and its reply.
+struct Found {
+    pub answer: u32,
+    pub spans: Spans,
+}
+
+fn exchange_found(next: Next) -> Found
+    ensures { λ x. ⌜ foundAs x ≡ exchangeNumbers next ⌝ }
+{
+    let nowhere = Spans {
+        request: 0,
+        stop: 0,
+        reply: 0,
+        end: 0,
+    };
+    match next {
+        Next::End => Found {
+            answer: 1,
+            spans: nowhere,
+        },
+        Next::Cut => Found {
+            answer: CUT,
+            spans: nowhere,
+        },
+        Next::Exchange(spans) => Found {
+            answer: 0,
+            spans: spans,
+        },
+    }
+}
+
+// The exchange that starts at a place.
+#[no_mangle]
+pub extern "C" fn khuyapesh_exchange(
+    recording: &[u8],
+    at: usize,
+    request: &mut usize,
+    stop: &mut usize,
+    reply: &mut usize,
+    end: &mut usize,
+) -> u32
+    ensures { λ n. ⌜ (n, (now (request .exit), (now (stop .exit), (now (reply .exit), now (end .exit))))) ≡ exchangeNumbers (exchangeAt (now (recording .entry)) at) ⌝ }
+{
+    let found = exchange_found(recording::exchange_at(recording, at));
+    let spans = found.spans;
+    *request = spans.request;
+    *stop = spans.stop;
+    *reply = spans.reply;
+    *end = spans.end;
+    found.answer
 }

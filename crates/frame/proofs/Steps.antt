@@ -3,14 +3,13 @@
 use mathlib.Core.Path.{_≡_, refl, ap, sym, _∙_}
 use mathlib.Core.List.{List, [], _∷_, _++_, append-assoc}
 use mathlib.Core.Bool.{Bool, true, false, not}
-use Prim.Native.Nat.{ℕ, zero, suc, _+_, _-_, _*_, _≤_, _<_}
+use Prim.Native.Nat.{ℕ, suc, _+_, _-_, _*_, _≤_, _<_}
 use native.Mathlib.Nat.{le-of-suc-le-suc, not-suc-le-zero}
-use native.Mathlib.Numerals.{add-one}
 use native.Mathlib.Omega.{arith}
 use lib.Bits.{bitXor}
 use lib.Dec.{eqb}
 use lib.ListN.{length, take, drop, getD, set, drop-of-length-le, length-append, length-drop, length-take, take-append-drop}
-use lib.Seq.{length-take-le, take-length}
+use lib.Seq.{length-take-le}
 use borrow.Rule.Slice.PartMut.{putMid}
 use borrow.Author.Tests.{le-leb, lt-leb, eq-eqb, ne-eqb, not-true, not-false}
 use Rattle.frame.specs.declared.Kind.{Kind}
@@ -33,25 +32,6 @@ xor-again s a b i h e = sym (ap (xorFrom a) (next s i h)) ∙ e
 pub xor-done : (s : List ℕ) (a b i : ℕ) → length s ≤ i → xorFrom a (drop i s) ≡ b → a ≡ b
 unfolding xorFrom
 xor-done s a b i h e = sym (ap (xorFrom a) (drop-of-length-le s h)) ∙ e
-
--- ---- the loop of `lay`
-
--- a turn's store takes the copy of i bytes to the copy of one more
-store : (s d : List ℕ) (i : ℕ) → i < length s → i < length d → set (take i s ++ drop i d) i (getD s i 0) ≡ take (suc i) s ++ drop (suc i) d
-store [] d i h k = absurd (not-suc-le-zero h)
-store (x ∷ s) [] i h k = absurd (not-suc-le-zero k)
-store (x ∷ s) (y ∷ d) zero h k = refl
-store (x ∷ s) (y ∷ d) (suc i) h k = ap (λ (l : List ℕ). x ∷ l) (store s d i (le-of-suc-le-suc h) (le-of-suc-le-suc k))
-
-pub copy-again : (s d₀ d : List ℕ) (i : ℕ) → i < length s → i < length d₀ → d ≡ take i s ++ drop i d₀
-    → set d i (getD s i 0) ≡ take (i + 1) s ++ drop (i + 1) d₀
-copy-again s d₀ d i h k e = ap (λ (l : List ℕ). set l i (getD s i 0)) e ∙ store s d₀ i h k ∙ ap (λ (n : ℕ). take n s ++ drop n d₀) (sym (add-one i))
-
-pub copy-done : (s d₀ d : List ℕ) (i : ℕ) → i ≤ length s → length s ≤ i → d ≡ take i s ++ drop i d₀ → d ≡ over s d₀
-unfolding over
-copy-done s d₀ d i h k e =
-    let n : i ≡ length s = omega arith in
-    e ∙ ap (λ (m : ℕ). take m s ++ drop m d₀) n ∙ ap (λ (l : List ℕ). l ++ drop (length s) d₀) (take-length s)
 
 -- ---- the stores that close a frame
 

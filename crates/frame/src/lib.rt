@@ -6,7 +6,7 @@ ghost use Rattle.frame.specs.Frame.{xorFrom, isText, allText, frameOf, t
 ghost use Rattle.base.specs.Test.{between};
 ghost use Rattle.frame.specs.Answer.{buildOf, locateOf, readOf, addressOf};
 ghost use Rattle.base.specs.Lists.{over};
-ghost use Rattle.frame.specs.Numbers.{lengthIn, builtAs, locatedAs, readAs, addressedAs};
+ghost use Rattle.frame.specs.Numbers.{silenceNumber, lengthIn, builtAs, locatedAs, readAs, addressedAs};
 
 // The two kinds of link.
 pub enum Kind {
@@ -32,6 +32,22 @@ pub enum Silence {
     AddressOrCode,
     // S8
     OtherAddress,
+}
+
+// The n of Sn.
+pub fn number_of(silence: Silence) -> u8
+    ensures { λ n. ⌜ n ≡ silenceNumber silence ⌝ }
+{
+    match silence {
+        Silence::InvalidRecord => 1,
+        Silence::ShortReplyBuffer => 2,
+        Silence::FrameLength => 3,
+        Silence::Mark => 4,
+        Silence::Check => 5,
+        Silence::TextByte => 6,
+        Silence::AddressOrCode => 7,
+        Silence::OtherAddress => 8,
+    }
 }
 
 // What building a frame answers.

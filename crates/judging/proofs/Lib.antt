@@ -1,4 +1,3 @@
-pub mod Exchange
 pub mod Loop
-pub mod Agreement
+pub mod Next
 pub mod Theorem

@@ -1,11 +1,12 @@
--- Laws for the loop over the exchanges of a recording, and for the answer to it. Assumes nothing.
+-- Laws for the loop over the exchanges of a recording, and for what is made of where it ends. Assumes nothing.
 use Prim.Native.Nat.{ℕ, suc, _+_, _-_, _*_, _≤_, _<_}
-use mathlib.Core.Bool.{Bool, true, false, not, _&&_}
-use mathlib.Core.Path.{_≡_, refl, sym, ap, _∙_}
+use mathlib.Core.Bool.{Bool, true, false, not, _&&_, false≢true}
+use mathlib.Core.Path.{_≡_, refl, sym, ap, subst, _∙_}
 use mathlib.Core.List.{List, [], _∷_}
 use native.Mathlib.Omega.{arith}
 use lib.Dec.{eqb}
-use lib.ListN.{length, getD, drop}
+use lib.ListN.{length, getD, take, drop, length-take}
+use lib.Seq.{take-length, take-nil, drop-cons, drop-drop}
 use borrow.Author.Tests.{le-ltb, lt-ltb, not-true, not-false}
 use Rattle.base.specs.Test.{pick, unless, between}
 use Rattle.base.proofs.Tests.{between-low}
@@ -21,192 +22,389 @@ use Rattle.recording.specs.declared.Read.{Read}
 use Rattle.recording.specs.declared.Read.the-variants as read
 use Rattle.recording.specs.Form.{Exchange, Exchanges, whole, cut, before, exchangesIn, Recording, J, recorded, headerWidth, withHeader, recordingOf, exchangeAt, J-number, counted, summary, refusalNumber, readAs}
 use Rattle.recording.specs.Replay.{fits, refuted}
-use Rattle.recording.specs.Statement.{Judgement, refused, judged}
-use Rattle.recording.specs.Progress.{passed, answerFrom, answerOf}
+use Rattle.recording.specs.Statement.{refused, judged}
+use Rattle.recording.specs.Progress.{passed, learnt, answerFrom, answerOf}
 use Rattle.recording.proofs.Laws.{Within, within, spanned, unrolled, unroll}
-use Rattle.judging.specs.Judge.{exchangeLearnt, living, judgementFor, judgementOf}
+use Rattle.recording.proofs.Exact.{passed-those}
+use Rattle.hearing.specs.Hearing.{exchange, exchangeLearnt, exchangeTaught}
+use Rattle.hearing.proofs.Exact.{taught-after}
+use Rattle.reason.specs.declared.Reason.{Reason}
+use Rattle.reason.specs.Reason.{reasonOf}
+use Rattle.judging.specs.declared.Progress.{Progress}
+use Rattle.judging.specs.Judge.{living, judgementFor, judgementOf, Telling, unread, broken, sets, noSets, knownBy, knownFor, knownOf, unexplained, fitting, because, whyBy, whyFor, whyOf, Followed, WellFormed, Breaks}
 
-never : _≡_ {A = ℕ} 0 1 → ⊥
-never e = omega arith
+never : {A : Type 0} → _≡_ {A = ℕ} 0 1 → A
+never e = absurd (omega arith)
 
--- ---- how many pass, step by step
+-- ---- what passes and what is learnt, step by step
 module _ (a c : ℕ) where
   pub passing : Knowledge → List Exchange → ℕ
   passing k es = passed (exchangeLearnt a c) living k es
+
+  pub learning : Knowledge → List Exchange → Knowledge
+  learning k es = learnt (exchangeLearnt a c) k es
 
   none-passes : (k : Knowledge) → passing k [] ≡ 0
   unfolding passing passed
   none-passes k = refl
 
-  stops : (k r : Knowledge) (e : Exchange) (es : List Exchange) → r ≡ exchangeLearnt a c k e → r .alive ≡ false → passing k (e ∷ es) ≡ 0
-  unfolding passing passed
-  stops k r e es w h = simp (sym (ap living w) ∙ h)
+  none-learnt : (k : Knowledge) → learning k [] ≡ k
+  unfolding learning learnt
+  none-learnt k = refl
 
-  passes : (k r : Knowledge) (e : Exchange) (es : List Exchange) → r ≡ exchangeLearnt a c k e → r .alive ≡ true → passing k (e ∷ es) ≡ suc (passing r es)
-  unfolding passing passed
-  passes k r e es w h =
-      ap (λ (b : Bool). pick b (suc (passed (exchangeLearnt a c) living (exchangeLearnt a c k e) es)) 0) (sym (ap living w) ∙ h)
-      ∙ ap (λ (x : Knowledge). suc (passed (exchangeLearnt a c) living x es)) (sym w)
+  module _ (k r : Knowledge) (e : Exchange) (es : List Exchange) (w : r ≡ exchangeLearnt a c k e) where
+    stops : r .alive ≡ false → passing k (e ∷ es) ≡ 0
+    unfolding passing passed
+    stops h = simp (sym (ap living w) ∙ h)
 
-  -- the answer when m of n pass
-  pub answer : ℕ → ℕ → Judgement
-  answer m n = judged (answerFrom (exchangeLearnt a c) living m n)
+    passes : r .alive ≡ true → passing k (e ∷ es) ≡ suc (passing r es)
+    unfolding passing passed
+    passes h =
+        ap (λ (b : Bool). pick b (suc (passed (exchangeLearnt a c) living (exchangeLearnt a c k e) es)) 0) (sym (ap living w) ∙ h)
+        ∙ ap (λ (x : Knowledge). suc (passed (exchangeLearnt a c) living x es)) (sym w)
 
-  all-passed : (m n : ℕ) → m ≡ n → answer m n ≡ judged (fits n)
-  unfolding answer
-  all-passed m n h = simp (le-ltb m n (omega arith))
+    learns : learning k (e ∷ es) ≡ learning r es
+    unfolding learning learnt
+    learns = ap (λ (x : Knowledge). learnt (exchangeLearnt a c) x es) (sym w)
 
-  some-passed : (m n : ℕ) → m < n → answer m n ≡ judged (refuted (m + 1) n)
-  unfolding answer
-  some-passed m n h = simp (lt-ltb m n h)
+-- ---- a well-formed recording: it passed each test
+module _ (a c : ℕ) (es : List Exchange) where
+  tested : (b₁ b₂ b₃ b₄ : Bool) (x : Recording) → unless b₁ (J 1) (unless b₂ (J 2) (unless b₃ (J 3) (unless b₄ (J 4) x))) ≡ recorded a c es
+      → (b₁ ≡ true) × (x ≡ recorded a c es)
+  tested true true true true x e = (refl, e)
+  tested true true true false x e = never (cc)
+  tested true true false b₄ x e = never (cc)
+  tested true false b₃ b₄ x e = never (cc)
+  tested false b₂ b₃ b₄ x e = never (cc)
 
--- ---- a well-formed recording
-record Formed (s : List ℕ) (a c n : ℕ) : Type 0 where
-  long : headerWidth ≤ length s
-  held : List Exchange
-  from : exchangesIn (length s) (drop headerWidth s) ≡ whole held
-  size : length held ≡ n
-  same : recordingOf s ≡ recorded a c held
+  headed : (b d : ℕ) (x : Exchanges) → withHeader b d x ≡ recorded a c es → x ≡ whole es
+  headed b d (whole fs) e = let i : fs ≡ es = cc in ap whole i
+  headed b d cut e = never (cc)
 
-module _ (a c n : ℕ) where
-  -- a recording that is counted passed each test
-  tested : (b₁ b₂ b₃ b₄ : Bool) (x : Recording) → summary (unless b₁ (J 1) (unless b₂ (J 2) (unless b₃ (J 3) (unless b₄ (J 4) x)))) ≡ counted a c n
-      → (b₁ ≡ true) × (unless b₁ (J 1) (unless b₂ (J 2) (unless b₃ (J 3) (unless b₄ (J 4) x))) ≡ x) × (summary x ≡ counted a c n)
-  tested true true true true x e = (refl, refl, e)
-  tested true true true false x e = absurd (never (cc))
-  tested true true false b₄ x e = absurd (never (cc))
-  tested true false b₃ b₄ x e = absurd (never (cc))
-  tested false b₂ b₃ b₄ x e = absurd (never (cc))
+  module _ (s : List ℕ) (e : recordingOf s ≡ recorded a c es) where
+    found : (between 5 65535 (length s) ≡ true) × (withHeader (getD s 3 0) (getD s 4 0) (exchangesIn (length s) (drop headerWidth s)) ≡ recorded a c es)
+    unfolding recordingOf
+    found =
+        tested (between 5 65535 (length s)) (eqb (getD s 0 0) 1) (eqb (getD s 1 0 * 256 + getD s 2 0) (length s))
+        (valid.within (fieldRange address) (getD s 3 0) && valid.within (fieldRange access) (getD s 4 0))
+        (withHeader (getD s 3 0) (getD s 4 0) (exchangesIn (length s) (drop headerWidth s))) e
 
-  headed : (b d : ℕ) (x : Exchanges) → summary (withHeader b d x) ≡ counted a c n
-      → (es : List Exchange) × (x ≡ whole es) × (length es ≡ n) × (withHeader b d x ≡ recorded a c es)
-  headed b d (whole es) e =
-      let p : b ≡ a = cc in
-      let q : d ≡ c = cc in
-      (es, refl, (cc), ap (λ (i : ℕ). recorded i d es) p ∙ ap (λ (i : ℕ). recorded a i es) q)
-  headed b d cut e = absurd (never (cc))
+    long : headerWidth ≤ length s
+    long = between-low 5 65535 (length s) (found .0)
 
-formed : (s : List ℕ) (a c n : ℕ) → summary (recordingOf s) ≡ counted a c n → Formed s a c n
-unfolding recordingOf
-formed s a c n e =
-    let x : Recording = withHeader (getD s 3 0) (getD s 4 0) (exchangesIn (length s) (drop headerWidth s)) in
-    let t = tested a c n (between 5 65535 (length s)) (eqb (getD s 0 0) 1) (eqb (getD s 1 0 * 256 + getD s 2 0) (length s))
-    (valid.within (fieldRange address) (getD s 3 0) && valid.within (fieldRange access) (getD s 4 0)) x e in
-    let h = headed a c n (getD s 3 0) (getD s 4 0) (exchangesIn (length s) (drop headerWidth s)) (t .2) in
-    record {
-      long = between-low 5 65535 (length s) (t .0);
-      held = h .0;
-      from = h .1;
-      size = h .2;
-      same = t .1 ∙ h .3;
-    }
+    from-header : exchangesIn (length s) (drop headerWidth s) ≡ whole es
+    from-header = headed (getD s 3 0) (getD s 4 0) (exchangesIn (length s) (drop headerWidth s)) (found .1)
 
--- ---- the loop: m exchanges passed, k is known, and the rest of them stand from the place on
-pub record Judged (s : List ℕ) (a c n : ℕ) (k : Knowledge) (at m : ℕ) : Type 0 where
+-- ---- the loop: i of the first m exchanges passed, k is known, and those after them stand from the place on
+pub record Going (s : List ℕ) (a c m : ℕ) (k : Knowledge) (at i : ℕ) : Type 0 where
   pub inside : at ≤ length s
-  pub few : m ≤ at
+  pub few : i + headerWidth ≤ at
+  pub most : i ≤ m
+  pub alive : k .alive ≡ true
+  pub held : List Exchange
+  pub same : recordingOf s ≡ recorded a c held
   pub rest : List Exchange
   pub from : exchangesIn (length s) (drop at s) ≡ whole rest
-  pub size : m + length rest ≡ n
-  pub all : judgementOf s ≡ answer a c (m + passing a c k rest) n
+  pub behind : drop i held ≡ rest
+  pub count : passing a c (start a c) (take m held) ≡ i + passing a c k (take (m - i) rest)
+  pub known : learning a c (start a c) (take m held) ≡ learning a c k (take (m - i) rest)
+  pub size : length (take m held) ≡ i + length (take (m - i) rest)
 
-answered : (s : List ℕ) (a c n : ℕ) (f : Formed s a c n) → judgementOf s ≡ answer a c (passing a c (start a c) (f .held)) n
-unfolding judgementOf answerOf answer passing
-answered s a c n f = ap judgementFor (f .same) ∙ ap (λ (i : ℕ). answer a c (passing a c (start a c) (f .held)) i) (f .size)
-
-pub judged-none : (s : List ℕ) (a c n : ℕ) (k : Knowledge) → summary (recordingOf s) ≡ counted a c n → k ≡ start a c → Judged s a c n k 5 0
-judged-none s a c n k e w =
-    let f = formed s a c n e in
-    let z : passing a c (start a c) (f .held) ≡ 0 + passing a c k (f .held) = ap (λ (x : Knowledge). passing a c x (f .held)) (sym w) ∙ omega arith in
+pub going-none : (s : List ℕ) (a c m : ℕ) (k : Knowledge) → WellFormed s a c → k ≡ start a c → Going s a c m k 5 0
+unfolding start
+going-none s a c m k (es, e) w =
+    let z : m ≡ m - 0 = omega arith in
+    let q : passing a c (start a c) (take m es) ≡ passing a c k (take (m - 0) es) =
+    ap (λ (x : Knowledge). passing a c x (take m es)) (sym w) ∙ ap (λ (j : ℕ). passing a c k (take j es)) z in
+    let l : length (take m es) ≡ length (take (m - 0) es) = ap (λ (j : ℕ). length (take j es)) z in
     record {
-      inside = f .long;
+      inside = long a c es s e;
       few = omega arith;
-      rest = f .held;
-      from = f .from;
-      size = omega (arith, f .size);
-      all = answered s a c n f ∙ ap (λ (i : ℕ). answer a c i n) z;
+      most = omega arith;
+      alive = ap living w;
+      held = es;
+      same = e;
+      rest = es;
+      from = from-header a c es s e;
+      behind = refl;
+      count = omega arith;
+      known = ap (λ (x : Knowledge). learning a c x (take m es)) (sym w) ∙ ap (λ (j : ℕ). learning a c k (take j es)) z;
+      size = omega arith;
     }
 
 -- what a list of exchanges that starts with one is
 begun : (e : Exchange) (x : Exchanges) (es : List Exchange) → whole es ≡ before e x → (rest : List Exchange) × (x ≡ whole rest) × (es ≡ e ∷ rest)
 begun e (whole rest) es h = (rest, refl, (cc))
-begun e cut es h = absurd (never (cc))
+begun e cut es h = never (cc)
 
-module _ (s : List ℕ) (a c n : ℕ) (k : Knowledge) (at m : ℕ) (x : Next) (j : Judged s a c n k at m) (i : x ≡ exchangeAt s at) where
-  by-next : (y : Next) → x ≡ y → whole (j .rest) ≡ unrolled s y
-  by-next y e = sym (j .from) ∙ unroll s at ∙ ap (unrolled s) (sym i ∙ e)
+-- where an exchange has its request and its reply
+module _ (s : List ℕ) (at : ℕ) (x : Next) (w : x ≡ exchangeAt s at) (p : Spans) (e : x ≡ next.Exchange p) where
+  places : Within s at p
+  places = within s at p (sym w ∙ e)
 
-  pub fits-all : x ≡ next.End → judged (fits n) ≡ judgementOf s
-  fits-all e =
-      let h : whole (j .rest) ≡ whole [] = by-next next.End e in
-      let none : j .rest ≡ [] = cc in
-      let p : m + passing a c k (j .rest) ≡ n =
-      ap (λ (es : List Exchange). m + passing a c k es) none ∙ ap (λ (z : ℕ). m + z) (none-passes a c k)
-      ∙ ap (λ (es : List Exchange). m + length es) (sym none) ∙ j .size in
-      sym (j .all ∙ all-passed a c (m + passing a c k (j .rest)) n p)
+  pub asked-order : p .request ≤ p .stop
+  asked-order = places .asked
 
-  -- a recording that is well-formed has no cut exchange
-  pub no-cut : x ≡ next.Cut → refused 5 ≡ judgementOf s
-  no-cut e = let h : whole (j .rest) ≡ cut = by-next next.Cut e in absurd (never (cc))
+  pub asked-inside : p .stop ≤ length s
+  asked-inside = omega (arith, places)
 
-  module _ (p : Spans) (e : x ≡ next.Exchange p) where
-    places : Within s at p
-    places = within s at p (sym i ∙ e)
+  pub answered-order : p .reply ≤ p .end
+  answered-order = places .answered
 
-    pub one-fits : m < length s
-    one-fits = omega (arith, j .few, places)
-
-    pub one-nearer : length s - p .end < length s - at
-    one-nearer = omega (arith, places)
-
-    pub asked-order : p .request ≤ p .stop
-    asked-order = places .asked
-
-    pub asked-inside : p .stop ≤ length s
-    asked-inside = omega (arith, places)
-
-    pub answered-order : p .reply ≤ p .end
-    answered-order = places .answered
-
-    pub answered-inside : p .end ≤ length s
-    answered-inside = places .inside
-
-    module _ (r : Knowledge) (w : r ≡ exchangeLearnt a c k (spanned s p)) where
-      pub refuted-here : not (r .alive) ≡ true → judged (refuted (m + 1) n) ≡ judgementOf s
-      refuted-here h =
-          let b = begun (spanned s p) (exchangesIn (length s) (drop (p .end) s)) (j .rest) (by-next (next.Exchange p) e) in
-          let z : m + passing a c k (j .rest) ≡ m =
-          ap (λ (es : List Exchange). m + passing a c k es) (b .2)
-          ∙ ap (λ (y : ℕ). m + y) (stops a c k r (spanned s p) (b .0) w (not-true (r .alive) h)) ∙ omega arith in
-          let l : m < n = omega (arith, j .size, ap length (b .2)) in
-          sym (j .all ∙ ap (λ (y : ℕ). answer a c y n) z ∙ some-passed a c m n l)
-
-      pub one-passed : not (r .alive) ≡ false → Judged s a c n r (p .end) (m + 1)
-      one-passed h =
-          let b = begun (spanned s p) (exchangesIn (length s) (drop (p .end) s)) (j .rest) (by-next (next.Exchange p) e) in
-          let g : passing a c k (j .rest) ≡ suc (passing a c r (b .0)) =
-          ap (passing a c k) (b .2) ∙ passes a c k r (spanned s p) (b .0) w (not-false (r .alive) h) in
-          let z : m + passing a c k (j .rest) ≡ m + 1 + passing a c r (b .0) = omega arith in
-          record {
-            inside = places .inside;
-            few = omega (arith, j .few, places);
-            rest = b .0;
-            from = b .1;
-            size = omega (arith, j .size, ap length (b .2));
-            all = j .all ∙ ap (λ (y : ℕ). answer a c y n) z;
-          }
+  pub answered-inside : p .end ≤ length s
+  answered-inside = places .inside
 
 pub ruleset spans-inside = (asked-order, asked-inside, answered-order, answered-inside)
 
+module _ (s : List ℕ) (a c m : ℕ) (k : Knowledge) (at i : ℕ) (g : Going s a c m k at i) (o : Progress) where
+  -- none of those that are asked for is left
+  at-end : take (m - i) (g .rest) ≡ [] → Followed s a c m record { passed = i; at = at; known = k }
+  unfolding passing learning
+  at-end none =
+      let z : passing a c k (take (m - i) (g .rest)) ≡ 0 = ap (passing a c k) none ∙ none-passes a c k in
+      let l : length (take (m - i) (g .rest)) ≡ 0 = ap length none in
+      record {
+        held = g .held;
+        same = g .same;
+        count = omega (arith, g .count);
+        all = λ alive. (omega (arith, g .size), sym (g .known ∙ (ap (learning a c k) none ∙ none-learnt a c k)));
+        fewer = λ dead. absurd (false≢true (sym dead ∙ g .alive));
+        few = omega (arith, g .few, g .inside);
+        rest = g .from ∙ ap whole (sym (g .behind));
+      }
+
+  pub followed-all : m ≤ i → o ≡ record { passed = i; at = at; known = k } → Followed s a c m o
+  followed-all h v =
+      let z : m - i ≡ 0 = omega arith in
+      subst (Followed s a c m) (sym v) (at-end (ap (λ (j : ℕ). take j (g .rest)) z))
+
+  module _ (x : Next) (w : x ≡ exchangeAt s at) where
+    by-next : (y : Next) → x ≡ y → whole (g .rest) ≡ unrolled s y
+    by-next y e = sym (g .from) ∙ unroll s at ∙ ap (unrolled s) (sym w ∙ e)
+
+    pub followed-end : x ≡ next.End → o ≡ record { passed = i; at = at; known = k } → Followed s a c m o
+    followed-end e v =
+        let h : whole (g .rest) ≡ whole [] = by-next next.End e in
+        let none : g .rest ≡ [] = cc in
+        subst (Followed s a c m) (sym v) (at-end (ap (take (m - i)) none ∙ take-nil (m - i)))
+
+    -- a recording that is well-formed has no cut exchange
+    pub followed-cut : x ≡ next.Cut → Followed s a c m o
+    followed-cut e = let h : whole (g .rest) ≡ cut = by-next next.Cut e in never (cc)
+
+    module _ (p : Spans) (e : x ≡ next.Exchange p) where
+      pub one-fits : i < length s
+      one-fits = omega (arith, g .few, places s at x w p e)
+
+      pub one-nearer : length s - p .end < length s - at
+      one-nearer = omega (arith, places s at x w p e)
+
+      -- the first of the rest
+      first : (rest : List Exchange) × (exchangesIn (length s) (drop (p .end) s) ≡ whole rest) × (g .rest ≡ spanned s p ∷ rest)
+      first = begun (spanned s p) (exchangesIn (length s) (drop (p .end) s)) (g .rest) (by-next (next.Exchange p) e)
+
+      taken : i < m → take (m - i) (g .rest) ≡ spanned s p ∷ take (m - (i + 1)) (first .0)
+      taken l =
+          let j : m - i ≡ suc (m - (i + 1)) = omega arith in
+          ap (λ (es : List Exchange). take (m - i) es) (first .2) ∙ ap (λ (n : ℕ). take n (spanned s p ∷ first .0)) j
+
+      module _ (r : Knowledge) (u : r ≡ exchangeTaught true a c k (spanned s p)) (l : i < m) where
+        v : r ≡ exchangeLearnt a c k (spanned s p)
+        v = u ∙ taught-after a c k (spanned s p)
+
+        pub followed-broken : not (r .alive) ≡ true → o ≡ record { passed = i; at = at; known = r } → Followed s a c m o
+        unfolding passing learning
+        followed-broken h w =
+            let gone = not-true (r .alive) h in
+            let z : passing a c k (take (m - i) (g .rest)) ≡ 0 =
+            ap (passing a c k) (taken l) ∙ stops a c k r (spanned s p) (take (m - (i + 1)) (first .0)) v gone in
+            let n : length (take (m - i) (g .rest)) ≡ suc (length (take (m - (i + 1)) (first .0))) = ap length (taken l) in
+            subst (Followed s a c m) (sym w) record {
+              held = g .held;
+              same = g .same;
+              count = omega (arith, g .count);
+              all = λ alive. absurd (false≢true (sym gone ∙ alive));
+              fewer = λ dead. omega (arith, g .size);
+              few = omega (arith, g .few, g .inside);
+              rest = g .from ∙ ap whole (sym (g .behind));
+            }
+
+        pub one-passed : not (r .alive) ≡ false → Going s a c m r (p .end) (i + 1)
+        one-passed h =
+            let living = not-false (r .alive) h in
+            let more : List Exchange = take (m - (i + 1)) (first .0) in
+            let z : passing a c k (take (m - i) (g .rest)) ≡ suc (passing a c r more) =
+            ap (passing a c k) (taken l) ∙ passes a c k r (spanned s p) more v living in
+            let n : length (take (m - i) (g .rest)) ≡ suc (length more) = ap length (taken l) in
+            record {
+              inside = places s at x w p e .inside;
+              few = omega (arith, g .few, places s at x w p e);
+              most = omega arith;
+              alive = living;
+              held = g .held;
+              same = g .same;
+              rest = first .0;
+              from = first .1;
+              behind = sym (drop-drop 1 i (g .held)) ∙ ap (drop 1) (g .behind ∙ first .2);
+              count = omega (arith, g .count);
+              known = g .known ∙ (ap (learning a c k) (taken l) ∙ learns a c k r (spanned s p) more v);
+              size = omega (arith, g .size);
+            }
+
+pub ruleset following = (followed-all, followed-end, followed-cut, followed-broken)
+
 -- ---- what was read of a recording
 module _ (s : List ℕ) (x : Read) (e : readAs x ≡ summary (recordingOf s)) where
-  pub judged-refused : (k : Refusal) → x ≡ read.Refused k → refused (refusalNumber k) ≡ judgementOf s
-  unfolding judgementOf
-  judged-refused k z = go (recordingOf s) (sym e ∙ ap readAs z)
-    where
-      go : (y : Recording) → summary y ≡ J-number (refusalNumber k) → refused (refusalNumber k) ≡ judgementFor y
-      go (J m) h = let i : m ≡ refusalNumber k = cc in ap refused (sym i)
-      go (recorded a c es) h = absurd (never (cc))
+  module _ (k : Refusal) (z : x ≡ read.Refused k) where
+    -- it is refused by that number
+    unread-so : recordingOf s ≡ J (refusalNumber k)
+    unread-so = go (recordingOf s) (sym e ∙ ap readAs z)
+      where
+        go : (y : Recording) → summary y ≡ J-number (refusalNumber k) → y ≡ J (refusalNumber k)
+        go (J m) h = let i : m ≡ refusalNumber k = cc in ap J i
+        go (recorded a c es) h = never (cc)
 
-  pub read-counted : (a c n : ℕ) → x ≡ read.Recorded a c n → summary (recordingOf s) ≡ counted a c n
-  read-counted a c n z = sym e ∙ ap readAs z
+    pub judged-refused : refused (refusalNumber k) ≡ judgementOf s
+    unfolding judgementOf
+    judged-refused = sym (ap judgementFor unread-so)
+
+    pub why-refused : unexplained (refusalNumber k) ≡ whyOf s
+    unfolding whyOf
+    why-refused = sym (ap whyFor unread-so)
+
+    pub known-refused : (y : Telling × List ℕ) (n : ℕ) → y ≡ (unread (refusalNumber k), noSets) → y ≡ knownOf s n
+    unfolding knownOf
+    known-refused y n w = w ∙ sym (ap (knownFor n) unread-so)
+
+  module _ (a c n : ℕ) (z : x ≡ read.Recorded a c n) where
+    read-so : (es : List Exchange) × (recordingOf s ≡ recorded a c es) × (length es ≡ n)
+    read-so = go (recordingOf s) (sym e ∙ ap readAs z)
+      where
+        go : (y : Recording) → summary y ≡ counted a c n → (es : List Exchange) × (y ≡ recorded a c es) × (length es ≡ n)
+        go (J m) h = never (cc)
+        go (recorded b d es) h =
+            let p : b ≡ a = cc in
+            let q : d ≡ c = cc in
+            (es, ap (λ (i : ℕ). recorded i d es) p ∙ ap (λ (i : ℕ). recorded a i es) q, (cc))
+
+    pub read-formed : WellFormed s a c
+    read-formed = (read-so .0, read-so .1)
+
+    -- ---- all of them are followed
+    module _ (p : Progress) (f : Followed s a c n p) where
+      -- they are those that were counted
+      all-taken : (recordingOf s ≡ recorded a c (f .held)) × (length (f .held) ≡ n) × (take n (f .held) ≡ f .held)
+      all-taken =
+          let h : recorded a c (f .held) ≡ recorded a c (read-so .0) = sym (f .same) ∙ read-so .1 in
+          let es : f .held ≡ read-so .0 = cc in
+          let l : length (f .held) ≡ n = ap length es ∙ read-so .2 in
+          (f .same, l, ap (λ (i : ℕ). take i (f .held)) (sym l) ∙ take-length (f .held))
+
+      judged-by : judgementOf s ≡ judged (answerFrom (exchangeLearnt a c) living (p .passed) n)
+      unfolding judgementOf answerOf
+      judged-by =
+          let (same, l, t) = all-taken in
+          let q : passed (exchangeLearnt a c) living (start a c) (f .held) ≡ p .passed =
+          sym (f .count ∙ ap (passed (exchangeLearnt a c) living (start a c)) t) in
+          ap judgementFor same ∙ (ap (λ (i : ℕ). judged (answerFrom (exchangeLearnt a c) living i (length (f .held)))) q
+          ∙ ap (λ (i : ℕ). judged (answerFrom (exchangeLearnt a c) living (p .passed) i)) l)
+
+      pub judged-fits : p .known .alive ≡ true → judged (fits n) ≡ judgementOf s
+      judged-fits alive =
+          let (same, l, t) = all-taken in
+          let q : p .passed ≡ n = f .all alive .0 ∙ (ap length t ∙ l) in
+          sym (judged-by ∙ simp (le-ltb (p .passed) n (omega arith)))
+
+      fewer-passed : p .known .alive ≡ false → p .passed < n
+      fewer-passed dead = let (same, l, t) = all-taken in let k = ap length t ∙ l in omega (arith, f .fewer dead)
+
+      pub judged-refuted : p .known .alive ≡ false → judged (refuted (p .passed + 1) n) ≡ judgementOf s
+      judged-refuted dead = sym (judged-by ∙ simp (lt-ltb (p .passed) n (fewer-passed dead)))
+
+      -- ---- why
+      pub why-fits : p .known .alive ≡ true → fitting n ≡ whyOf s
+      unfolding whyOf
+      why-fits alive =
+          let (same, l, t) = all-taken in
+          let q : p .passed ≡ n = f .all alive .0 ∙ (ap length t ∙ l) in
+          let k : passed (exchangeLearnt a c) living (start a c) (f .held) ≡ p .passed =
+          sym (f .count ∙ ap (passed (exchangeLearnt a c) living (start a c)) t) in
+          sym (ap whyFor same ∙ simp (le-ltb (passed (exchangeLearnt a c) living (start a c) (f .held)) (length (f .held)) (omega arith)) (ap fitting l))
+
+      pub breaks : p .known .alive ≡ false → Breaks s a c n (p .passed)
+      breaks dead =
+          let (same, l, t) = all-taken in
+          (f .held, same, l, sym (f .count ∙ ap (passed (exchangeLearnt a c) living (start a c)) t), fewer-passed dead)
+
+pub ruleset judging = (judged-refused, judged-fits, judged-refuted)
+
+-- ---- so many of them are followed
+module _ (s : List ℕ) (a c m : ℕ) (p : Progress) (f : Followed s a c m p) where
+  known-by : knownOf s m ≡ knownBy (p .passed) (length (take m (f .held))) (learning a c (start a c) (take m (f .held)))
+  unfolding knownOf learning
+  known-by =
+      ap (knownFor m) (f .same)
+      ∙ ap (λ (i : ℕ). knownBy i (length (take m (f .held))) (learnt (exchangeLearnt a c) (start a c) (take m (f .held)))) (sym (f .count))
+
+  pub known-broken : (y : Telling × List ℕ) → not (p .known .alive) ≡ true → y ≡ (broken (p .passed + 1), noSets) → y ≡ knownOf s m
+  known-broken y dead w = w ∙ sym (known-by ∙ simp (lt-ltb (p .passed) (length (take m (f .held))) (f .fewer (not-true (p .known .alive) dead))))
+
+  pub known-sets : not (p .known .alive) ≡ false → (sets, p .known .codes) ≡ knownOf s m
+  unfolding learning
+  known-sets alive =
+      let (n, k) = f .all (not-false (p .known .alive) alive) in
+      sym (known-by ∙ simp (le-ltb (p .passed) (length (take m (f .held))) (omega arith)) (ap (λ (x : Knowledge). (sets, x .codes)) (sym k)))
+
+pub ruleset knowing = (known-refused, known-broken, known-sets)
+
+-- ---- the exchange behind those that passed
+pub breaks-formed : (s : List ℕ) (a c n p : ℕ) → Breaks s a c n p → WellFormed s a c
+breaks-formed s a c n p b = (b .0, b .1)
+
+module _ (s : List ℕ) (a c n p : ℕ) (b : Breaks s a c n p) (o : Progress) (f : Followed s a c p o) where
+  abbrev es : List Exchange
+  es = b .0
+
+  -- they are the same exchanges
+  same-held : f .held ≡ es
+  same-held = let h : recorded a c (f .held) ≡ recorded a c es = sym (f .same) ∙ b .1 in cc
+
+  -- all of those pass
+  count-so : o .passed ≡ p
+  count-so =
+      f .count ∙ (ap (λ (fs : List Exchange). passed (exchangeLearnt a c) living (start a c) (take p fs)) same-held
+      ∙ (ap (λ (i : ℕ). passed (exchangeLearnt a c) living (start a c) (take i es)) (sym (b .3)) ∙ (passed-those (exchangeLearnt a c) living es (start a c) ∙ b .3)))
+
+  known-so : o .known ≡ learnt (exchangeLearnt a c) (start a c) (take p es)
+  known-so = go (o .known .alive) refl
+    where
+      go : (t : Bool) → o .known .alive ≡ t → o .known ≡ learnt (exchangeLearnt a c) (start a c) (take p es)
+      go true alive = f .all alive .1 ∙ ap (λ (fs : List Exchange). learnt (exchangeLearnt a c) (start a c) (take p fs)) same-held
+      go false dead = let h = f .fewer dead in let q = count-so in let l = length-take p (f .held) in absurd (omega arith)
+
+  module _ (x : Next) (w : x ≡ exchangeAt s (o .at)) where
+    by-place : (y : Next) → x ≡ y → whole (getD es p (exchange [] []) ∷ drop (suc p) es) ≡ unrolled s y
+    by-place y e =
+        let l : p < length es = omega (arith, b .2, b .4) in
+        sym (f .rest ∙ (ap whole (ap (λ (i : ℕ). drop i (f .held)) count-so ∙ ap (drop p) same-held) ∙ ap whole (drop-cons es p (exchange [] []) l)))
+        ∙ (unroll s (o .at) ∙ ap (unrolled s) (sym w ∙ e))
+
+    pub no-end : x ≡ next.End → fitting n ≡ whyOf s
+    no-end e = let h : whole (getD es p (exchange [] []) ∷ drop (suc p) es) ≡ whole [] = by-place next.End e in never (cc)
+
+    pub no-cut : x ≡ next.Cut → fitting n ≡ whyOf s
+    no-cut e = let h : whole (getD es p (exchange [] []) ∷ drop (suc p) es) ≡ cut = by-place next.Cut e in never (cc)
+
+    pub why-refuted : (q : Spans) (r : Reason) → x ≡ next.Exchange q → r ≡ reasonOf a c (o .known) (spanned s q) → because (p + 1) n r ≡ whyOf s
+    unfolding whyOf
+    why-refuted q r e v =
+        let g = begun (spanned s q) (exchangesIn (length s) (drop (q .end) s)) (getD es p (exchange [] []) ∷ drop (suc p) es) (by-place (next.Exchange q) e) in
+        let first : spanned s q ≡ getD es p (exchange [] []) = let h = g .2 in cc in
+        let reason-so : r ≡ reasonOf a c (learnt (exchangeLearnt a c) (start a c) (take p es)) (getD es p (exchange [] [])) =
+        v ∙ (ap (λ (k : Knowledge). reasonOf a c k (spanned s q)) known-so ∙ ap (reasonOf a c (learnt (exchangeLearnt a c) (start a c) (take p es))) first) in
+        ap (because (p + 1) n) reason-so
+        ∙ sym (ap whyFor (b .1) ∙ (ap (λ (i : ℕ). whyBy a c es i (length es)) (b .3) ∙ (ap (whyBy a c es p) (b .2) ∙ simp (lt-ltb p n (b .4)))))
+
+pub ruleset explaining = (why-refused, why-fits)
+
+pub ruleset breaking = (no-end, no-cut, why-refuted)

@@ -1,105 +1,39 @@
--- The judge's answer is the one that demand 3 calls for, and no other is. What an exchange teaches is exact: the records that are possible
--- afterwards are those that follow a record that was possible before and agrees; the rest is the law of every exact judge. Assumes nothing.
-use Prim.Native.Nat.{ℕ, _+_, _*_}
+-- The judge's answer is the one that demand 3 calls for, and no other is; and what is told of the record is what the statement beside it
+-- calls for. What an exchange teaches is exact (crate hearing); the rest is the law of every exact judge. Assumes nothing.
+use Prim.Native.Nat.{ℕ, _+_, _-_, _*_, _≤_, _<_}
 use mathlib.Core.Bool.{Bool, true, false, _&&_, false≢true}
 use mathlib.Core.Path.{_≡_, refl, sym, ap, subst, _∙_}
-use mathlib.Core.List.{List, [], _∷_}
+use mathlib.Core.List.{List, [], _∷_, _++_}
 use mathlib.Core.Logic.{_↔_}
 use native.Mathlib.Omega.{arith}
-use lib.Dec.{eqb}
-use lib.ListN.{length, getD, take, drop}
-use borrow.Author.Tests.{eqb-true, eqb-false}
+use native.Mathlib.Numerals.{add-one}
+use lib.Dec.{eqb, ltb}
+use lib.ListN.{length, getD, take, drop, length-take}
+use lib.Seq.{length-take-le, take-length, take-suc, take-take}
+use borrow.Author.Tests.{ltb-true, ltb-false}
 use Rattle.base.specs.Test.{pick, unless, between}
 use Rattle.base.proofs.Tests.{and-left, and-right}
 use Rattle.state.specs.declared.Record.{Record}
-use Rattle.state.specs.Field.{address, access, get, fieldRange}
-use Rattle.state.specs.Valid.{within, valid}
-use Rattle.frame.specs.declared.Kind.the-variants.{Minicomputer}
-use Rattle.frame.specs.Numbers as frame
-use Rattle.frame.specs.Numbers.{H, S, accepted, unit}
-use Rattle.frame.specs.Answer.{locateOf, addressOf}
-use Rattle.text.specs.Word.{digits, equal}
-use Rattle.command.specs.Request.{Asked, askedIn}
-use Rattle.command.proofs.Fits.{asked-sound}
-use Rattle.text.proofs.Words.{equal-true, equal-same}
+use Rattle.state.specs.Field.{address, access, fieldCount, fieldRange}
+use Rattle.state.specs.Valid.{within}
 use Rattle.knowledge.specs.declared.Knowledge.{Knowledge}
-use Rattle.knowledge.specs.Knowledge.{dead, start}
+use Rattle.knowledge.specs.Knowledge.{start, setsOf}
 use Rattle.knowledge.proofs.Possible.{Possible, Kept}
-use Rattle.knowledge.proofs.Cut.{dead-none, dead-kept}
-use Rattle.knowledge.proofs.Start.{own-address, some-record, start-possible, start-kept, start-told}
-use Rattle.learning.specs.Learn.{learnOf}
-use Rattle.learning.proofs.Exact.{learn-onward, learn-back, learn-kept}
+use Rattle.knowledge.proofs.Start.{some-record, start-possible, start-kept, start-told}
+use Rattle.knowledge.proofs.Product.{product-exactly}
 use Rattle.recording.specs.Form.{Exchange, Exchanges, whole, cut, Recording, J, recorded, recordingOf, withHeader, exchangesIn, headerWidth}
 use Rattle.recording.specs.Replay.{Answer, fits, refuted, Right}
 use Rattle.recording.specs.Statement.{Agrees, next, Fits, Judgement, judged, RightOf, Demand3}
-use Rattle.recording.specs.Progress.{answerOf}
-use Rattle.recording.proofs.Exact.{Exactly, From, right}
+use Rattle.recording.specs.Known.{MayHold, InProduct, RefutedAt, ToldOf, RightlyTold, Because, WhyOf, RightlyReasoned}
+use Rattle.recording.specs.Progress.{passed, learnt, answerOf}
+use Rattle.recording.proofs.Exact.{passed-those, passed-not, Exactly, From, Last, last, leads, learnt-sound, learnt-alive, right}
 use Rattle.recording.proofs.Consequences.{one-judgement}
-use Rattle.judging.specs.Judge.{silenceKept, textLearnt, locatedLearnt, replyLearnt, addressedLearnt, exchangeLearnt, living, judgementFor, judgementOf}
-use Rattle.judging.proofs.Agreement.{asked, heard, FromUnit, silence-exactly, silence-after, reply-exactly, reply-after}
-
-never : {A : Type 0} → _≡_ {A = ℕ} 0 1 → A
-never z = absurd (omega arith)
-
--- ---- what an exchange teaches: nothing, what its reply does, or that no record agrees
-module _ (a c : ℕ) (k : Knowledge) (e : Exchange) where
-  -- the request names the address, or not
-  abbrev Names : ℕ → Type 0
-  Names n = addressOf Minicomputer (e .request) ≡ unit a n
-
-  abbrev Other : Type 0
-  Other = (n : ℕ) → Names n → ⊥
-
-  -- no record with the address agrees
-  abbrev Refuting : Type 0
-  Refuting = (r : Record) → valid r ≡ true → get address r ≡ a → Agrees r e → ⊥
-
-  module _ (P : Knowledge → Type 0) (stays : Other → e .reply ≡ [] → P k)
-      (learns : (n : ℕ) → Names n → FromUnit a e → P (learnOf c (askedIn (asked e)) (drop 2 (heard e)) k)) (ends : Refuting → P (dead k)) where
-    by-silence : Other → P (silenceKept (e .reply) k)
-    unfolding silenceKept
-    by-silence other = go (e .reply) refl
-      where
-        go : (xs : List ℕ) → e .reply ≡ xs → P (silenceKept xs k)
-        go [] q = stays other q
-        go (x ∷ xs) q = ends (λ r v own g. let z : x ∷ xs ≡ [] = sym q ∙ silence-exactly a r e own other .0 g in never (cc))
-
-    by-reply : (n : ℕ) → Names n → P (replyLearnt a c (asked e) (e .reply) k)
-    unfolding replyLearnt textLearnt
-    by-reply n h = go (locateOf Minicomputer (e .reply)) refl
-      where
-        -- not a frame
-        refused : (y : frame.Answer) → locateOf Minicomputer (e .reply) ≡ y → ((m : ℕ) → accepted m ≡ y → ⊥) → P (dead k)
-        refused y q clash = ends (λ r v own g. let f = reply-exactly a r e own v n h .0 g .0 in clash (f .size) (sym (f .located) ∙ q))
-
-        text : (m : ℕ) → locateOf Minicomputer (e .reply) ≡ accepted m → (b : Bool) → equal (take 2 (heard e)) (digits 2 a) ≡ b
-            → P (unless b (dead k) (learnOf c (askedIn (asked e)) (drop 2 (heard e)) k))
-        text m q true d = learns n h record { size = m; located = q; named = equal-true (take 2 (heard e)) (digits 2 a) d }
-        text m q false d =
-            ends (λ r v own g.
-            let s = reply-exactly a r e own v n h .0 g .0 .named in
-            false≢true (sym d ∙ (ap (λ (xs : List ℕ). equal xs (digits 2 a)) s ∙ equal-same (digits 2 a))))
-
-        go : (y : frame.Answer) → locateOf Minicomputer (e .reply) ≡ y → P (locatedLearnt a c (asked e) y (heard e) k)
-        go (accepted m) q = text m q (equal (take 2 (heard e)) (digits 2 a)) refl
-        go (H m) q = refused (H m) q (λ i z. never (cc))
-        go (S m) q = refused (S m) q (λ i z. never (cc))
-        go (unit b m) q = refused (unit b m) q (λ i z. never (cc))
-
-    by-exchange : P (exchangeLearnt a c k e)
-    unfolding exchangeLearnt
-    by-exchange = go (addressOf Minicomputer (e .request)) refl
-      where
-        named : (b n : ℕ) → addressOf Minicomputer (e .request) ≡ unit b n → (t : Bool) → eqb b a ≡ t
-            → P (pick t (replyLearnt a c (asked e) (e .reply) k) (silenceKept (e .reply) k))
-        named b n q true i = by-reply n (q ∙ ap (λ (x : ℕ). unit x n) (eqb-true b a i))
-        named b n q false i = by-silence (λ m h. let z : unit b n ≡ unit a m = sym q ∙ h in eqb-false b a i (cc))
-
-        go : (y : frame.Answer) → addressOf Minicomputer (e .request) ≡ y → P (addressedLearnt a c y (asked e) (e .reply) k)
-        go (unit b n) q = named b n q (eqb b a) refl
-        go (H n) q = by-silence (λ m h. never (cc))
-        go (S n) q = by-silence (λ m h. never (cc))
-        go (accepted n) q = by-silence (λ m h. never (cc))
+use Rattle.hearing.specs.Hearing.{exchange, exchangeLearnt}
+use Rattle.hearing.proofs.Exact.{onward, back, keeps}
+use Rattle.reason.specs.declared.Reason.{Reason}
+use Rattle.reason.specs.Reason.{reasonOf, reasonAs}
+use Rattle.reason.proofs.Holds.{reason-holds}
+use Rattle.judging.specs.Judge.{living, judgementFor, judgementOf, Telling, broken, sets, noSets, knownFor, knownOf, toldBy, Caused, fitting, because, whyFor, whyOf, reasonedBy}
 
 -- ---- an answer that is right of one predicate is right of another that it implies and that implies it
 right-along : {E : Type 0} (F G : List E → Type 0) → ((es : List E) → F es → G es) → ((es : List E) → G es → F es)
@@ -114,41 +48,14 @@ unless-holds P false x y p q = p
 
 -- ---- the judge is exact
 module _ (a c : ℕ) (in-address : within (fieldRange address) a ≡ true) (in-access : within (fieldRange access) c ≡ true) where
-  onward : (k : Knowledge) (e : Exchange) (r : Record) → Kept a c k → Possible k r → Agrees r e → Possible (exchangeLearnt a c k e) (next r e)
-  onward k e r kept t g =
-      let own : get address r ≡ a = own-address k r kept in-address t in
-      let q : Asked = askedIn (asked e) in
-      let b : List ℕ = drop 2 (heard e) in
-      by-exchange a c k e (λ x. Possible x (next r e)) (λ other i. subst (Possible k) (sym (silence-after a r e own other)) t)
-      (λ n h f.
-      subst (Possible (learnOf c q b k)) (sym (reply-after a r e own (t .sound) n h))
-      (learn-onward q b k r kept in-access (asked-sound (asked e)) t (reply-exactly a r e own (t .sound) n h .0 g .1)))
-      (λ none. absurd (none r (t .sound) own g))
-
-  back : (k : Knowledge) (e : Exchange) (s : Record) → Kept a c k → Possible (exchangeLearnt a c k e) s
-      → (r : Record) × Possible k r × Agrees r e × (next r e ≡ s)
-  back k e s kept =
-      by-exchange a c k e (λ x. Possible x s → (r : Record) × Possible k r × Agrees r e × (next r e ≡ s))
-      (λ other i t. let own = own-address k s kept in-address t in (s, t, silence-exactly a s e own other .1 i, silence-after a s e own other))
-      (λ n h f t.
-      let (r, p, said, after) = learn-back (askedIn (asked e)) (drop 2 (heard e)) k s kept in-access (asked-sound (asked e)) t in
-      let own = own-address k r kept in-address p in
-      (r, p, reply-exactly a r e own (p .sound) n h .1 (f, said), reply-after a r e own (p .sound) n h ∙ after))
-      (λ none t. absurd (dead-none k s t))
-
-  keeps : (k : Knowledge) (e : Exchange) → Kept a c k → Kept a c (exchangeLearnt a c k e)
-  keeps k e kept =
-      by-exchange a c k e (Kept a c) (λ other i. kept)
-      (λ n h f. learn-kept (askedIn (asked e)) (drop 2 (heard e)) k kept (asked-sound (asked e))) (λ none. dead-kept k kept)
-
   pub exact : Exactly next Agrees (Kept a c) Possible (exchangeLearnt a c) living
   exact =
       record {
-        onward = onward;
-        back = back;
+        onward = λ k e r kept t g. onward a c in-address in-access k e kept r t g;
+        back = λ k e s kept t. back a c in-address in-access k e kept s t;
         some = λ k kept alive. some-record k kept alive;
         none = λ k s gone t. false≢true (sym gone ∙ t .living);
-        kept = keeps;
+        kept = λ k e kept. keeps a c in-address in-access k e kept;
       }
 
   -- the first knowledge allows exactly the records to start from
@@ -169,34 +76,179 @@ module _ (a c : ℕ) (in-address : within (fieldRange address) a ≡ true) (in-a
       right-along Started (Fits a c) started-fits fits-started es (answerOf (exchangeLearnt a c) living (start a c) es)
       (right next Agrees (Kept a c) Possible (exchangeLearnt a c) living exact (start a c) es (start-kept a c in-address in-access) refl)
 
--- ---- demand 3
+  -- ---- what is known after some exchanges
+  module _ (es : List Exchange) where
+    abbrev pub knownNow : Knowledge
+    knownNow = learnt (exchangeLearnt a c) (start a c) es
 
--- the answer to a recording is right of it
-record Judged (x : Recording) : Type 0 where
+    abbrev passedNow : ℕ
+    passedNow = passed (exchangeLearnt a c) living (start a c) es
+
+    pub known-kept : Kept a c knownNow
+    known-kept = learnt-sound next Agrees (Kept a c) Possible (exchangeLearnt a c) living exact es (start a c) (start-kept a c in-address in-access)
+
+    -- the records that are possible are those that a right controller may hold
+    pub may-hold : (r : Record) → Possible knownNow r ↔ MayHold a c es r
+    may-hold r =
+        let l = leads next Agrees (Kept a c) Possible (exchangeLearnt a c) living exact es (start a c) (start-kept a c in-address in-access) r in (
+          λ p.
+              let (s, t, all, e) = l .0 p in
+              let q = start-told a c s in-address in-access t in
+              (s, record { valid-record = q .0; same-address = q .1; same-access = q .2 }, all, e),
+          λ (s, t, all, e). l .1 (s, start-possible a c s (t .valid-record) (t .same-address) (t .same-access), all, e),
+        )
+
+    pub known-alive : passedNow ≡ length es → knownNow .alive ≡ true
+    unfolding start
+    known-alive e = learnt-alive (exchangeLearnt a c) living es (start a c) refl e
+
+    -- as many as pass fit, and not one more
+    last-fits : Last next Agrees (Kept a c) Possible (exchangeLearnt a c) living exact (start a c) es passedNow
+    unfolding start
+    last-fits = last next Agrees (Kept a c) Possible (exchangeLearnt a c) living exact (start a c) es (start-kept a c in-address in-access) refl
+
+  -- the first of them that does not pass is the first that no record survives
+  pub refuted-at : (es : List Exchange) → passedNow es < length es → RefutedAt a c es (passedNow es + 1)
+  refuted-at es l =
+      let n : ℕ = passedNow es in
+      let e : n + 1 - 1 ≡ n = omega arith in (
+        omega arith,
+        omega arith,
+        subst (λ (i : ℕ). Fits a c (take i es)) (sym e) (started-fits (take n es) (last-fits es .holds)),
+        λ f. last-fits es .fails l (subst (λ (i : ℕ). Started (take i es)) (add-one n) (fits-started (take (n + 1) es) f)),
+      )
+
+  -- what refutes the first of them refutes all
+  refuted-within : (es : List Exchange) (k i : ℕ) → RefutedAt a c (take k es) i → (i ≤ k) × RefutedAt a c es i
+  refuted-within es k i (l, h, f, n) =
+      let j : i ≤ k = omega (arith, length-take k es) in (
+        j,
+        (
+          l,
+          omega (arith, length-take k es),
+          subst (Fits a c) (take-take (i - 1) k es (omega arith)) f,
+          λ g. n (subst (Fits a c) (sym (take-take i k es j)) g),
+        ),
+      )
+
+  -- the codes are of the sets of what may be held
+  abbrev ExactSets : List ℕ → List Exchange → Type 0
+  ExactSets cs es = Fits a c es × ((r : Record) → InProduct (setsOf record { alive = true; codes = cs }) r ↔ MayHold a c es r)
+
+  -- all of them pass
+  sets-right : (es : List Exchange) → length es ≤ passedNow es → ExactSets (knownNow es .codes) es
+  sets-right es l =
+      let all : passedNow es ≡ length es = omega (arith, last-fits es .bound) in
+      let same : knownNow es ≡ record { alive = true; codes = knownNow es .codes } =
+      ap (λ (b : Bool). record { alive = b; codes = knownNow es .codes }) (known-alive es all) in (
+        started-fits es (subst Started (take-length es) (subst (λ (i : ℕ). Started (take i es)) all (last-fits es .holds))),
+        λ r.
+            let x = product-exactly record { alive = true; codes = knownNow es .codes } refl r in
+            let y = may-hold es r in (
+              λ h. y .0 (subst (λ (z : Knowledge). Possible z r) (sym same) (x .0 h)),
+              λ h. x .1 (subst (λ (z : Knowledge). Possible z r) same (y .1 h)),
+            ),
+      )
+
+  told-right : (es : List Exchange) (k : ℕ) → ToldOf (recorded a c es) k (toldBy (knownFor k (recorded a c es)))
+  told-right es k = go (take k es) refl (ltb (passedNow (take k es)) (length (take k es))) refl
+    where
+      go : (fs : List Exchange) → take k es ≡ fs → (b : Bool) → ltb (passedNow fs) (length fs) ≡ b
+          → ToldOf (recorded a c es) k (toldBy (pick b (broken (passedNow fs + 1), noSets) (sets, knownNow fs .codes)))
+      go fs e true q =
+          refuted-within es k (passedNow fs + 1)
+          (subst (λ (gs : List Exchange). RefutedAt a c gs (passedNow fs + 1)) (sym e) (refuted-at fs (ltb-true (passedNow fs) (length fs) q)))
+      go fs e false q = subst (ExactSets (knownNow fs .codes)) (sym e) (sets-right fs (ltb-false (passedNow fs) (length fs) q))
+
+  -- there is one code for each field
+  told-long : (es : List Exchange) (k : ℕ) → length (knownFor k (recorded a c es) .1) ≡ fieldCount
+  told-long es k = go (take k es) (ltb (passedNow (take k es)) (length (take k es)))
+    where
+      go : (fs : List Exchange) (b : Bool) → length (pick {A = Telling × List ℕ} b (broken (passedNow fs + 1), noSets) (sets, knownNow fs .codes) .1) ≡ fieldCount
+      go fs true = refl
+      go fs false = known-kept fs .full
+
+  -- ---- why: the exchange behind those that pass, by what is known after them
+  module _ (es : List Exchange) where
+    abbrev before : List Exchange
+    before = take (passedNow es) es
+
+    abbrev refuting : Exchange
+    refuting = getD es (passedNow es) (exchange [] [])
+
+    abbrev reasoned : Reason
+    reasoned = reasonOf a c (knownNow before) refuting
+
+    because-so : passedNow es < length es → Because a c before refuting (reasonAs reasoned)
+    because-so l =
+        let p = passed-those (exchangeLearnt a c) living es (start a c) in
+        let n : length before ≡ passedNow es = length-take-le (passedNow es) es (omega arith) in
+        let all : passedNow before ≡ length before = omega arith in
+        reason-holds a c in-address in-access (knownNow before) (known-kept before) (known-alive before all) refuting before (may-hold before)
+        (passed-not (exchangeLearnt a c) living es (start a c) (exchange [] []) l)
+
+    reasoned-right : WhyOf (recorded a c es) (reasonedBy (whyFor (recorded a c es)))
+    reasoned-right = go (ltb (passedNow es) (length es)) refl
+      where
+        go : (b : Bool) → ltb (passedNow es) (length es) ≡ b
+            → WhyOf (recorded a c es) (reasonedBy (pick b (because (passedNow es + 1) (length es) reasoned) (fitting (length es))))
+        go true q =
+            let l : passedNow es < length es = ltb-true (passedNow es) (length es) q in
+            let i : passedNow es + 1 - 1 ≡ passedNow es = omega arith in
+            let split : take (passedNow es + 1) es ≡ before ++ (refuting ∷ []) =
+            ap (λ (j : ℕ). take j es) (add-one (passedNow es)) ∙ take-suc es (passedNow es) (exchange [] []) l in (
+              refl,
+              refuted-at es l,
+              subst (λ (j : ℕ). (e : Exchange) × (take (passedNow es + 1) es ≡ take j es ++ (e ∷ [])) × Because a c (take j es) e (reasonAs reasoned)) (sym i)
+                  (refuting, split, because-so l),
+            )
+        go false q = (refl, sets-right es (ltb-false (passedNow es) (length es) q) .0)
+
+-- ---- what holds of the two ends of every recording's tests holds of every recording
+record Rightly (x : Recording) : Type 0 where
   answer : RightOf x (judgementFor x)
+  told : (k : ℕ) → ToldOf x k (toldBy (knownFor k x))
+  long : (k : ℕ) → length (knownFor k x .1) ≡ fieldCount
+  reasoned : WhyOf x (reasonedBy (whyFor x))
 
-refused-right : (n : ℕ) → Judged (J n)
-refused-right n = record { answer = refl }
+unread-right : (n : ℕ) → Rightly (J n)
+unread-right n = record { answer = refl; told = λ k. refl; long = λ k. refl; reasoned = refl }
 
-recorded-right : (a c : ℕ) (x : Exchanges) → within (fieldRange address) a && within (fieldRange access) c ≡ true → Judged (withHeader a c x)
+recorded-right : (a c : ℕ) (x : Exchanges) → within (fieldRange address) a && within (fieldRange access) c ≡ true → Rightly (withHeader a c x)
 recorded-right a c (whole es) h =
-    let p : Bool = within (fieldRange address) a in
-    let q : Bool = within (fieldRange access) c in
-    record { answer = answer-right a c (and-left p q h) (and-right p q h) es }
-recorded-right a c cut h = refused-right 5
+    let p = and-left (within (fieldRange address) a) (within (fieldRange access) c) h in
+    let q = and-right (within (fieldRange address) a) (within (fieldRange access) c) h in
+    record { answer = answer-right a c p q es; told = told-right a c p q es; long = told-long a c p q es; reasoned = reasoned-right a c p q es }
+recorded-right a c cut h = unread-right 5
 
-each-right : (bs : List ℕ) → Judged (recordingOf bs)
+each-right : (bs : List ℕ) → Rightly (recordingOf bs)
 unfolding recordingOf
 each-right bs =
-    unless-holds Judged (between 5 65535 (length bs)) (J 1) _ (refused-right 1)
-    (λ l. unless-holds Judged (eqb (getD bs 0 0) 1) (J 2) _ (refused-right 2)
-    (λ v. unless-holds Judged (eqb (getD bs 1 0 * 256 + getD bs 2 0) (length bs)) (J 3) _ (refused-right 3)
-    (λ t. unless-holds Judged (within (fieldRange address) (getD bs 3 0) && within (fieldRange access) (getD bs 4 0)) (J 4) _ (refused-right 4)
+    unless-holds Rightly (between 5 65535 (length bs)) (J 1) _ (unread-right 1)
+    (λ l. unless-holds Rightly (eqb (getD bs 0 0) 1) (J 2) _ (unread-right 2)
+    (λ v. unless-holds Rightly (eqb (getD bs 1 0 * 256 + getD bs 2 0) (length bs)) (J 3) _ (unread-right 3)
+    (λ t. unless-holds Rightly (within (fieldRange address) (getD bs 3 0) && within (fieldRange access) (getD bs 4 0)) (J 4) _ (unread-right 4)
     (λ h. recorded-right (getD bs 3 0) (getD bs 4 0) (exchangesIn (length bs) (drop headerWidth bs)) h))))
 
+-- ---- demand 3
 pub judgement-right : (bs : List ℕ) → Demand3 bs (judgementOf bs)
 unfolding judgementOf
 judgement-right bs = each-right bs .answer
+
+-- ---- what is told of the record
+pub known-right : (bs : List ℕ) (k : ℕ) → RightlyTold bs k (toldBy (knownOf bs k))
+unfolding knownOf
+known-right bs k = each-right bs .told k
+
+-- one code for each field, whatever is told
+pub known-length : (bs : List ℕ) (k : ℕ) → length (knownOf bs k .1) ≡ fieldCount
+unfolding knownOf
+known-length bs k = each-right bs .long k
+
+-- ---- why
+pub why-right : (bs : List ℕ) → RightlyReasoned bs (reasonedBy (whyOf bs))
+unfolding whyOf
+why-right bs = each-right bs .reasoned
 
 -- ---- for the readers
 
@@ -216,3 +268,9 @@ judged-fits bs a c es e =
 -- what equals the judge's answer meets demand 3
 pub right-so : (bs : List ℕ) (j : Judgement) → j ≡ judgementOf bs → Demand3 bs j × (j ≡ judgementOf bs)
 right-so bs j e = (subst (Demand3 bs) (sym e) (judgement-right bs), e)
+
+pub known-so : (bs : List ℕ) (k : ℕ) (x : Telling × List ℕ) → x ≡ knownOf bs k → RightlyTold bs k (toldBy x) × (x ≡ knownOf bs k)
+known-so bs k x e = (subst (λ (y : Telling × List ℕ). RightlyTold bs k (toldBy y)) (sym e) (known-right bs k), e)
+
+pub why-so : (bs : List ℕ) (x : Caused) → x ≡ whyOf bs → RightlyReasoned bs (reasonedBy x) × (x ≡ whyOf bs)
+why-so bs x e = (subst (λ (y : Caused). RightlyReasoned bs (reasonedBy y)) (sym e) (why-right bs), e)

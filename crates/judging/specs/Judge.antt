@@ -1,28 +1,32 @@
--- The judge by its own steps: what each exchange teaches, and the answer. `proofs/Theorem.antt` shows that the answer is the one that
--- demand 3 calls for; a reader of that statement need not read this.
-use Prim.Native.Nat.{ℕ}
-use mathlib.Core.Bool.{Bool}
-use mathlib.Core.List.{List}
-use lib.Dec.{eqb}
-use lib.ListN.{take, drop}
-use Rattle.base.specs.Test.{pick, unless}
-use Rattle.frame.specs.declared.Kind.the-variants.{Minicomputer}
-use Rattle.frame.specs.Frame.{textIn}
-use Rattle.frame.specs.Numbers.{Answer, H, S, accepted, unit}
-use Rattle.frame.specs.Answer.{locateOf, addressOf}
-use Rattle.text.specs.Word.{digits, equal}
-use Rattle.command.specs.Commands.{isEmpty}
-use Rattle.command.specs.Request.{askedIn}
+-- The judge by its own steps, what is known after so many exchanges, and why a recording is refuted. `proofs/Theorem.antt` shows that
+-- these are the answers that the statements of `recording` call for; a reader of those need not read this.
+use Prim.Native.Nat.{ℕ, _+_, _<_}
+use mathlib.Core.Bool.{Bool, true, false}
+use mathlib.Core.Path.{_≡_}
+use mathlib.Core.List.{List, []}
+use lib.Dec.{ltb}
+use lib.ListN.{length, getD, take, drop, replicate}
+use Rattle.base.specs.Test.{pick}
+use Rattle.state.specs.Field.{fieldCount}
 use Rattle.knowledge.specs.declared.Knowledge.{Knowledge}
-use Rattle.knowledge.specs.Knowledge.{dead, start}
-use Rattle.learning.specs.Learn.{learnOf}
-use Rattle.recording.specs.Form.{Exchange, Recording, J, recorded, recordingOf, refusalNumber}
+use Rattle.knowledge.specs.Knowledge.{start, setsOf}
+use Rattle.recording.specs.Form.{Exchange, whole, exchangesIn, Recording, J, recorded, recordingOf, refusalNumber}
 use Rattle.recording.specs.Replay.{fits, refuted}
 use Rattle.recording.specs.Statement as statement
 use Rattle.recording.specs.Statement.{refused, judged}
-use Rattle.recording.specs.Progress.{answerOf}
+use Rattle.recording.specs.Known as known
+use Rattle.recording.specs.Progress.{passed, learnt, answerOf}
+use Rattle.hearing.specs.Hearing.{exchange, exchangeLearnt}
+use Rattle.reason.specs.declared.Reason.{Reason}
+use Rattle.reason.specs.Reason.{reasonOf, reasonAs}
 use Rattle.judging.specs.declared.Judgement.{Judgement}
 use Rattle.judging.specs.declared.Judgement.the-variants as judgement
+use Rattle.judging.specs.declared.Told.{Told}
+use Rattle.judging.specs.declared.Told.the-variants as told
+use Rattle.judging.specs.declared.Findings.{Findings}
+use Rattle.judging.specs.declared.Progress.{Progress}
+use Rattle.judging.specs.declared.Cause.{Cause}
+use Rattle.judging.specs.declared.Cause.the-variants as cause
 
 -- the code's answer as document 01 has it: fits N, refuted at I of N, refused Jn
 abbrev pub judgementAs : Judgement → statement.Judgement
@@ -30,46 +34,98 @@ judgementAs (judgement.Fits n) = judged (fits n)
 judgementAs (judgement.Refuted i n) = judged (refuted i n)
 judgementAs (judgement.Refused k) = refused (refusalNumber k)
 
-abbrev pub exchange : List ℕ → List ℕ → Exchange
-exchange q reply = record { request = q; reply = reply }
-
--- ---- one exchange; a is the address, c the access
-
--- a request that should have met silence
-unfoldable pub silenceKept : List ℕ → Knowledge → Knowledge
-silenceKept reply k = unless (isEmpty reply) (dead k) k
-
--- u is the text of the reply's frame
-unfoldable pub textLearnt : ℕ → ℕ → List ℕ → List ℕ → Knowledge → Knowledge
-textLearnt a c t u k = unless (equal (take 2 u) (digits 2 a)) (dead k) (learnOf c (askedIn t) (drop 2 u) k)
-
-abbrev pub locatedLearnt : ℕ → ℕ → List ℕ → Answer → List ℕ → Knowledge → Knowledge
-locatedLearnt a c t (accepted n) u k = textLearnt a c t u k
-locatedLearnt a c t (H n) u k = dead k
-locatedLearnt a c t (S n) u k = dead k
-locatedLearnt a c t (unit b n) u k = dead k
-
--- a request with the text t that is answered
-unfoldable pub replyLearnt : ℕ → ℕ → List ℕ → List ℕ → Knowledge → Knowledge
-replyLearnt a c t reply k = locatedLearnt a c t (locateOf Minicomputer reply) (textIn Minicomputer reply) k
-
-abbrev pub addressedLearnt : ℕ → ℕ → Answer → List ℕ → List ℕ → Knowledge → Knowledge
-addressedLearnt a c (unit b n) t reply k = pick (eqb b a) (replyLearnt a c t reply k) (silenceKept reply k)
-addressedLearnt a c (H n) t reply k = silenceKept reply k
-addressedLearnt a c (S n) t reply k = silenceKept reply k
-addressedLearnt a c (accepted n) t reply k = silenceKept reply k
-
-unfoldable pub exchangeLearnt : ℕ → ℕ → Knowledge → Exchange → Knowledge
-exchangeLearnt a c k e =
-    addressedLearnt a c (addressOf Minicomputer (e .request)) (textIn Minicomputer (e .request)) (e .reply) k
-
--- ---- all of them
 abbrev pub living : Knowledge → Bool
 living k = k .alive
 
+-- ---- the judge
 abbrev pub judgementFor : Recording → statement.Judgement
 judgementFor (J n) = refused n
 judgementFor (recorded a c es) = judged (answerOf (exchangeLearnt a c) living (start a c) es)
 
 unfoldable pub judgementOf : List ℕ → statement.Judgement
 judgementOf bs = judgementFor (recordingOf bs)
+
+-- ---- what is known after the first k exchanges
+
+-- the code's answer: Jn, the exchange that refutes, or that the codes of the sets stand beside it
+pub data Telling : Type 0 where
+  unread : ℕ → Telling
+  broken : ℕ → Telling
+  sets : Telling
+
+abbrev pub tellingAs : Told → Telling
+tellingAs (told.Refused k) = unread (refusalNumber k)
+tellingAs (told.Refuted i) = broken i
+tellingAs told.Sets = sets
+
+-- beside a refusal or a refutation no field's set has a number
+abbrev pub noSets : List ℕ
+noSets = replicate fieldCount 0
+
+abbrev pub knownBy : ℕ → ℕ → Knowledge → Telling × List ℕ
+knownBy p n x = pick (ltb p n) (broken (p + 1), noSets) (sets, x .codes)
+
+abbrev pub knownFor : ℕ → Recording → Telling × List ℕ
+knownFor k (J n) = (unread n, noSets)
+knownFor k (recorded a c es) =
+    knownBy (passed (exchangeLearnt a c) living (start a c) (take k es)) (length (take k es)) (learnt (exchangeLearnt a c) (start a c) (take k es))
+
+unfoldable pub knownOf : List ℕ → ℕ → Telling × List ℕ
+knownOf bs k = knownFor k (recordingOf bs)
+
+abbrev pub knownAs : Findings → Telling × List ℕ
+knownAs x = (tellingAs (x .told), x .codes)
+
+-- as the statement has it
+abbrev pub toldBy : Telling × List ℕ → known.Told
+toldBy (unread n, cs) = known.refused n
+toldBy (broken i, cs) = known.refuted i
+toldBy (sets, cs) = known.known (setsOf record { alive = true; codes = cs })
+
+-- ---- why a recording is refuted: Jn, fits N, or refuted at I of N and the reason
+pub data Caused : Type 0 where
+  unexplained : ℕ → Caused
+  fitting : ℕ → Caused
+  because : ℕ → ℕ → Reason → Caused
+
+abbrev pub causedAs : Cause → Caused
+causedAs (cause.Refused k) = unexplained (refusalNumber k)
+causedAs (cause.Fits n) = fitting n
+causedAs (cause.Refuted i n why) = because i n why
+
+-- p of n pass: the next one refutes, by what is known after those
+abbrev pub whyBy : ℕ → ℕ → List Exchange → ℕ → ℕ → Caused
+whyBy a c es p n =
+    pick (ltb p n) (because (p + 1) n (reasonOf a c (learnt (exchangeLearnt a c) (start a c) (take p es)) (getD es p (exchange [] [])))) (fitting n)
+
+abbrev pub whyFor : Recording → Caused
+whyFor (J n) = unexplained n
+whyFor (recorded a c es) = whyBy a c es (passed (exchangeLearnt a c) living (start a c) es) (length es)
+
+unfoldable pub whyOf : List ℕ → Caused
+whyOf bs = whyFor (recordingOf bs)
+
+-- as the statement has it
+abbrev pub reasonedBy : Caused → known.Why
+reasonedBy (unexplained n) = known.unread n
+reasonedBy (fitting n) = known.fitting n
+reasonedBy (because i n why) = known.because i n (reasonAs why)
+
+-- ---- the loop over the exchanges: how many of the first m pass, and what is known then, which is dead where one does not; the next one
+-- starts at the place
+pub record Followed (s : List ℕ) (a c m : ℕ) (p : Progress) : Type 0 where
+  pub held : List Exchange
+  pub same : recordingOf s ≡ recorded a c held
+  pub count : p .passed ≡ passed (exchangeLearnt a c) living (start a c) (take m held)
+  pub all : p .known .alive ≡ true → (p .passed ≡ length (take m held)) × (p .known ≡ learnt (exchangeLearnt a c) (start a c) (take m held))
+  pub fewer : p .known .alive ≡ false → p .passed < length (take m held)
+  pub few : p .passed < length s
+  pub rest : exchangesIn (length s) (drop (p .at) s) ≡ whole (drop (p .passed) held)
+
+abbrev pub WellFormed : List ℕ → ℕ → ℕ → Type 0
+WellFormed s a c = (es : List Exchange) × (recordingOf s ≡ recorded a c es)
+
+-- of n exchanges p pass, and not all
+abbrev pub Breaks : List ℕ → ℕ → ℕ → ℕ → ℕ → Type 0
+Breaks s a c n p =
+    (es : List Exchange) × (recordingOf s ≡ recorded a c es) × (length es ≡ n) × (passed (exchangeLearnt a c) living (start a c) es ≡ p) × (p < n)

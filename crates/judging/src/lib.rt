@@ -1,18 +1,15 @@
-// The judge: whether any correct controller could have produced a recording, and if not, where it broke.
-use frame::Addressed;
-use frame::Kind;
-use frame::Located;
+// The judge: whether any correct controller could have produced a recording, and if not, where it broke and why; and what is known of
+// the controller's record on the way.
+use knowledge::FIELDS;
 use knowledge::Knowledge;
+use reason::Reason;
 use recording::Next;
 use recording::Read;
 use recording::Refusal;
-use text::is_word;
 ghost use mathlib.Core.Path.{_≡_};
-ghost use Prim.Native.Nat.{_≤_};
-ghost use lib.ListN.{length};
-ghost use Rattle.recording.specs.Form.{recordingOf, summary, counted};
 ghost use Rattle.recording.specs.Statement.{Demand3};
-ghost use Rattle.judging.specs.Judge.{judgementAs, exchange, silenceKept, textLearnt, replyLearnt, exchangeLearnt, judgementOf};
+ghost use Rattle.recording.specs.Known.{RightlyTold, RightlyReasoned};
+ghost use Rattle.judging.specs.Judge.{judgementAs, judgementOf, tellingAs, noSets, knownAs, knownOf, toldBy, causedAs, whyOf, reasonedBy, Followed, WellFormed, Breaks};
 
 // Fits N, refuted at I of N, or refused.
 pub enum Judgement {
@@ -21,86 +18,82 @@ pub enum Judgement {
     Refused(Refusal),
 }
 
-// The request should have met silence.
-fn silent(k: Knowledge, reply: &[u8]) -> Knowledge
-    ensures { λ r. ⌜ r ≡ silenceKept (now (reply .entry)) k ⌝ }
-{
-    if reply.len() == 0 {
-        return k;
-    }
-    k.refuted()
+// Refused, the exchange that refutes, or the sets.
+pub enum Told {
+    Refused(Refusal),
+    Refuted(usize),
+    Sets,
 }
 
-// The reply's text: the address digits, then the reply.
-fn learn_text(k: Knowledge, address: u8, access: u8, asked: &[u8], text: &[u8]) -> Knowledge
-    requires { ⌜ 2 ≤ length (now text) ⌝ }
-    ensures { λ r. ⌜ r ≡ textLearnt address access (now (asked .entry)) (now (text .entry)) k ⌝ }
-{
-    let digits = [0x30 + address / 10 % 10, 0x30 + address % 10];
-    if !is_word(&text[0..2], &digits) {
-        return k.refuted();
-    }
-    learning::learn(k, access, command::parse(asked), &text[2..])
+// What is told, and the code of each field's set; beside a refusal or a refutation no set has a number.
+pub struct Findings {
+    pub told: Told,
+    pub codes: [u32; FIELDS],
 }
 
-// The request with this text is answered.
-fn learn_reply(k: Knowledge, address: u8, access: u8, asked: &[u8], reply: &[u8]) -> Knowledge
-    ensures { λ r. ⌜ r ≡ replyLearnt address access (now (asked .entry)) (now (reply .entry)) k ⌝ }
-{
-    let Located::Text(n) = frame::locate(Kind::Minicomputer, reply) else {
-        return k.refuted();
-    };
-    let end = n + 1;
-    learn_text(k, address, access, asked, &reply[1..end])
+// Refused, fits N, or refuted at I of N and why.
+pub enum Cause {
+    Refused(Refusal),
+    Fits(usize),
+    Refuted(usize, usize, Reason),
 }
 
-// What one exchange teaches.
-fn learn_exchange(k: Knowledge, address: u8, access: u8, request: &[u8], reply: &[u8]) -> Knowledge
-    ensures { λ r. ⌜ r ≡ exchangeLearnt address access k (exchange (now (request .entry)) (now (reply .entry))) ⌝ }
+// How far the exchanges were followed: how many passed, where the next one starts, and what is known then; dead if that one refutes.
+pub struct Progress {
+    pub passed: usize,
+    pub at: usize,
+    pub known: Knowledge,
+}
+
+fn so_far(passed: usize, at: usize, known: Knowledge) -> Progress
+    ensures { λ p. ⌜ p ≡ record { passed = passed; at = at; known = known } ⌝ }
 {
-    match frame::address(Kind::Minicomputer, request) {
-        Addressed::Silent(_) => silent(k, reply),
-        Addressed::Unit(unit, n) => {
-            if unit != address {
-                return silent(k, reply);
-            }
-            let end = n + 1;
-            learn_reply(k, address, access, &request[1..end], reply)
-        }
+    Progress {
+        passed: passed,
+        at: at,
+        known: known,
     }
 }
 
-// The exchanges of a recording that is well-formed, one after the other.
-fn judge_exchanges(s: &[u8], address: u8, access: u8, count: usize) -> Judgement
-    requires { ⌜ summary (recordingOf (now s)) ≡ counted address access count ⌝ }
-    ensures { λ j. ⌜ judgementAs j ≡ judgementOf (now (s .entry)) ⌝ }
+// Follows the exchanges of a recording that is well-formed, so many at most, up to one that leaves no record possible.
+fn follow(s: &[u8], address: u8, access: u8, most: usize) -> Progress
+    requires { ⌜ WellFormed (now s) address access ⌝ }
+    ensures { λ p. ⌜ Followed (now (s .entry)) address access most p ⌝ }
 {
-    let mut k = knowledge::begin(address, access);
+    let mut known = knowledge::begin(address, access);
     let mut at = recording::HEADER;
     let mut passed = 0;
-    loop {
+    while passed < most {
         match recording::exchange_at(s, at) {
             Next::End => {
-                return Judgement::Fits(count);
+                return so_far(passed, at, known);
             }
             // never, since the recording is well-formed
             Next::Cut => {
-                return Judgement::Refused(Refusal::Cut);
+                return so_far(passed, at, known);
             }
             Next::Exchange(spans) => {
                 let request = spans.request;
                 let stop = spans.stop;
                 let reply = spans.reply;
                 let end = spans.end;
-                k = learn_exchange(k, address, access, &s[request..stop], &s[reply..end]);
-                passed += 1;
-                if !k.alive {
-                    return Judgement::Refuted(passed, count);
+                known = hearing::learn(
+                    known,
+                    address,
+                    access,
+                    &s[request..stop],
+                    &s[reply..end],
+                    true,
+                );
+                if !known.alive {
+                    return so_far(passed, at, known);
                 }
+                passed += 1;
                 at = end;
             }
         }
     }
+    so_far(passed, at, known)
 }
 
 // Judges a recording: demand 3.
@@ -110,6 +103,83 @@ pub fn judge(s: &[u8]) -> Judgement
 {
     match recording::read_recording(s) {
         Read::Refused(refusal) => Judgement::Refused(refusal),
-        Read::Recorded(address, access, count) => judge_exchanges(s, address, access, count),
+        Read::Recorded(address, access, count) => {
+            let end = follow(s, address, access, count);
+            if end.known.alive {
+                return Judgement::Fits(count);
+            }
+            Judgement::Refuted(end.passed + 1, count)
+        }
+    }
+}
+
+// No set has a number.
+fn nothing(told: Told) -> Findings
+    ensures { λ x. ⌜ knownAs x ≡ (tellingAs told, noSets) ⌝ }
+{
+    Findings {
+        told: told,
+        codes: [0; FIELDS],
+    }
+}
+
+// What is known of the record after the first exchanges; more of them than there are count as all.
+pub fn known(s: &[u8], exchanges: usize) -> Findings
+    ensures { λ x. ⌜ RightlyTold (now (s .entry)) exchanges (toldBy (knownAs x)) ⌝ }
+    ensures { λ x. ⌜ knownAs x ≡ knownOf (now (s .entry)) exchanges ⌝ }
+{
+    match recording::read_recording(s) {
+        Read::Refused(refusal) => nothing(Told::Refused(refusal)),
+        Read::Recorded(address, access, _) => {
+            let end = follow(s, address, access, exchanges);
+            let known = end.known;
+            if !known.alive {
+                return nothing(Told::Refuted(end.passed + 1));
+            }
+            let codes = known.codes;
+            Findings {
+                told: Told::Sets,
+                codes: codes,
+            }
+        }
+    }
+}
+
+// Why the exchange behind those that passed refutes.
+fn cause_behind(s: &[u8], address: u8, access: u8, count: usize, passed: usize) -> Cause
+    requires { ⌜ Breaks (now s) address access count passed ⌝ }
+    ensures { λ x. ⌜ causedAs x ≡ whyOf (now (s .entry)) ⌝ }
+{
+    let before = follow(s, address, access, passed);
+    let known = before.known;
+    match recording::exchange_at(s, before.at) {
+        // never, since not all passed
+        Next::End => Cause::Fits(count),
+        Next::Cut => Cause::Fits(count),
+        Next::Exchange(spans) => {
+            let request = spans.request;
+            let stop = spans.stop;
+            let reply = spans.reply;
+            let end = spans.end;
+            let why = reason::find(known, address, access, &s[request..stop], &s[reply..end]);
+            Cause::Refuted(passed + 1, count, why)
+        }
+    }
+}
+
+// Why a recording is refuted.
+pub fn why(s: &[u8]) -> Cause
+    ensures { λ x. ⌜ RightlyReasoned (now (s .entry)) (reasonedBy (causedAs x)) ⌝ }
+    ensures { λ x. ⌜ causedAs x ≡ whyOf (now (s .entry)) ⌝ }
+{
+    match recording::read_recording(s) {
+        Read::Refused(refusal) => Cause::Refused(refusal),
+        Read::Recorded(address, access, count) => {
+            let reached = follow(s, address, access, count);
+            if reached.known.alive {
+                return Cause::Fits(count);
+            }
+            cause_behind(s, address, access, count, reached.passed)
+        }
     }
 }

@@ -1,7 +1,9 @@
--- Masks, bit by bit: what two masks share or have together, the numbers that pass a test, and a mask that is not empty. Assumes nothing.
-use Prim.Native.Nat.{ℕ, zero, suc, _+_, _*_, _/_, _%_, _≤_, _<_}
+-- Masks, bit by bit: a bit by a shift, what two masks share or have together, the numbers that pass a test, and a mask that is not empty.
+-- Assumes nothing.
+use Prim.Native.Nat.{ℕ, zero, suc, _+_, _*_, _/_, _%_, _^_, _≤_, _<_}
 use mathlib.Core.Bool.{Bool, true, false, _&&_, _||_}
-use mathlib.Core.Path.{_≡_, refl, ap, _∙_}
+use mathlib.Core.Path.{_≡_, refl, sym, ap, _∙_}
+use native.Mathlib.Nat.{div-div-eq-div-mul}
 use native.Mathlib.Omega.{arith}
 use lib.Dec.{eqb}
 use lib.Bits.{bitAnd, bitOr, and-shr, or-shr}
@@ -9,6 +11,14 @@ use borrow.Author.Tests.{eq-eqb, ne-eqb}
 use Rattle.base.proofs.Bits.{low-and, low-or}
 use Rattle.state.specs.Field.{flagNumber}
 use Rattle.knowledge.specs.Sets.{bit, maskFrom}
+
+-- ---- a bit is the lowest of the mask shifted that far
+pub bit-shifted : (n m : ℕ) → eqb (m / 2 ^ n % 2) 1 ≡ bit m n
+unfolding bit
+bit-shifted zero m = let e : m / 1 ≡ m = omega arith in ap (λ (x : ℕ). eqb (x % 2) 1) e
+bit-shifted (suc n) m =
+    let e : 2 ^ suc n ≡ 2 * 2 ^ n = omega arith in
+    ap (λ (x : ℕ). eqb (x % 2) 1) (ap (λ (d : ℕ). m / d) e ∙ sym (div-div-eq-div-mul m 2 (2 ^ n))) ∙ bit-shifted n (m / 2)
 
 -- ---- two masks: what they share, and what they have together
 pub bit-and : (n a b : ℕ) → bit (bitAnd a b) n ≡ (bit a n && bit b n)

@@ -14,9 +14,9 @@ use Rattle.base.specs.Test.{between}
 use Rattle.base.proofs.Tests.{and-yes, and-left, and-right, between-yes, between-high, between-no, holds-below, below-or-not}
 use Rattle.state.specs.Parameter.{recipes, parameterCount, rangeAt}
 use Rattle.state.specs.Alarm.{noAlarm, allAlarms}
-use Rattle.state.specs.Field.{Field, address, access, alarms, position, fieldRange, scalarFields, flagNumber}
+use Rattle.state.specs.Field.{Field, address, access, alarms, position, fieldRange, scalarFields, flagNumber, Held}
 use Rattle.state.specs.Valid.{within}
-use Rattle.state.proofs.Fields.{Held, by-fields, by-list}
+use Rattle.state.proofs.Fields.{by-fields, by-list}
 use Rattle.knowledge.specs.Sets.{Kind, several, single, alarmed, kindOf, bit, maskBy, maskIn, anyNumber, only, alarmsIn, noneMask, someMask, alarmMask, inSet, has, any, anyOf, alone, aloneOf}
 use Rattle.knowledge.proofs.Bits.{bit-and, bit-or, bit-zero, bit-mask, bit-beyond, some-bit}
 use Rattle.knowledge.proofs.Alarms.{Uniform, alarms-passed, no-alarms, some-alarms, any-alarms, just-in}

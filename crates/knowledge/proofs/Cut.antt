@@ -11,9 +11,8 @@ use Rattle.base.specs.Test.{pick}
 use Rattle.base.proofs.Tests.{and-yes, and-left, and-right}
 use Rattle.state.specs.declared.Record.{Record}
 use Rattle.state.specs.Parameter.{parameterCount}
-use Rattle.state.specs.Field.{Field, access, value, get, position, fieldRange}
+use Rattle.state.specs.Field.{Field, access, value, get, position, fieldRange, Held}
 use Rattle.state.specs.Valid.{within}
-use Rattle.state.proofs.Fields.{Held}
 use Rattle.knowledge.specs.declared.Knowledge.{Knowledge}
 use Rattle.knowledge.specs.Sets.{single, kindOf, maskIn, only, has, alone}
 use Rattle.knowledge.specs.Knowledge.{codeAt, dead, recoded, restricted, told, settled, passing, holding}

@@ -2,9 +2,11 @@ pub mod Steps
 pub mod Bits
 pub mod Alarms
 pub mod Codes
+pub mod Membership
 pub mod Possible
 pub mod Recode
 pub mod Cut
+pub mod Product
 pub mod Start
 pub mod Move
 pub mod Replace

@@ -12,11 +12,11 @@ use Rattle.base.proofs.Tests.{between-yes, between-low, between-high}
 use Rattle.state.specs.declared.Record.{Record}
 use Rattle.state.specs.Parameter.{parameterCount}
 use Rattle.state.specs.Alarm.{noAlarm, allAlarms, lasting}
-use Rattle.state.specs.Field.{Field, access, number, alarms, value, get, put, position, fieldRange}
+use Rattle.state.specs.Field.{Field, access, number, alarms, value, get, put, position, fieldRange, Held}
 use Rattle.state.specs.Valid.{within}
 use Rattle.state.specs.Event.{nextNumber}
 use Rattle.state.proofs.Alarms.{lasting-within}
-use Rattle.state.proofs.Fields.{Held, get-put-other}
+use Rattle.state.proofs.Fields.{get-put-other}
 use Rattle.state.proofs.Kept.{get-put-own, next-within}
 use Rattle.state.proofs.Whole.{put-over}
 use Rattle.knowledge.specs.declared.Knowledge.{Knowledge}

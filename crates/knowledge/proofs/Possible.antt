@@ -5,9 +5,8 @@ use mathlib.Core.Path.{_≡_}
 use lib.ListN.{length}
 use Rattle.state.specs.declared.Record.{Record}
 use Rattle.state.specs.Parameter.{parameterCount}
-use Rattle.state.specs.Field.{Field, address, access, value, get, position}
+use Rattle.state.specs.Field.{Field, address, access, value, get, position, Held}
 use Rattle.state.specs.Valid.{valid}
-use Rattle.state.proofs.Fields.{Held}
 use Rattle.knowledge.specs.declared.Knowledge.{Knowledge}
 use Rattle.knowledge.specs.Sets.{has}
 use Rattle.knowledge.specs.Knowledge.{codeAt}

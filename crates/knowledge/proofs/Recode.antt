@@ -4,12 +4,15 @@ use Prim.Native.Nat.{ℕ, _<_}
 use mathlib.Core.Bool.{true}
 use mathlib.Core.Path.{_≡_, refl, sym, ap, ap₂, subst, _∙_}
 use native.Mathlib.Omega.{arith}
+use lib.Dec.{eqb}
+use borrow.Author.Tests.{eqb-true, eqb-false}
+use Rattle.base.proofs.Tests.{by-test}
 use lib.ListN.{length, length-set}
 use lib.Seq.{getD-set-same, getD-set-other}
 use Rattle.state.specs.declared.Record.{Record}
 use Rattle.state.specs.Parameter.{parameterCount}
-use Rattle.state.specs.Field.{Field, address, access, value, get, put, position}
-use Rattle.state.proofs.Fields.{Held, at-field, get-put-other}
+use Rattle.state.specs.Field.{Field, address, access, value, get, put, position, Held}
+use Rattle.state.proofs.Fields.{at-field, get-put-other}
 use Rattle.state.proofs.Kept.{get-put-own, put-kept}
 use Rattle.state.proofs.Whole.{put-own}
 use Rattle.knowledge.specs.declared.Knowledge.{Knowledge}
@@ -71,12 +74,23 @@ module _ (k : Knowledge) (f : Field) (code : ℕ) (full : length (k .codes) ≡ 
       (λ h. (own .0, ap (λ (d : ℕ). has f d (own .0)) (code-same k f code full held) ∙ own .1))
       (λ g o h. let s = some g h in (s .0, ap (λ (d : ℕ). has g d (s .0)) (code-other k f code g o) ∙ s .1))
 
-pub recode-kept : {a c : ℕ} (k : Knowledge) (f : Field) (code : ℕ) → Kept a c k → Held f → position access < position f
+-- what is kept stays kept, if the address and the access do
+pub recode-kept-any : {a c : ℕ} (k : Knowledge) (f : Field) (code : ℕ) → Kept a c k → Held f → (position f ≡ position address → code ≡ a) → (position f ≡ position access → code ≡ c)
     → (k .alive ≡ true → (n : ℕ) × (has f code n ≡ true)) → Kept a c (recoded (position f) code k)
-recode-kept k f code kept held beyond left =
+recode-kept-any k f code kept held as-address as-access left =
     record {
       full = length-set (k .codes) (position f) code ∙ kept .full;
-      own-address = code-other k f code address (λ e. omega arith) ∙ kept .own-address;
-      own-access = code-other k f code access (λ e. omega arith) ∙ kept .own-access;
+      own-address = own address (kept .own-address) as-address;
+      own-access = own access (kept .own-access) as-access;
       some = λ alive. recode-some k f code (kept .full) held (left alive) (kept .some alive);
     }
+  where
+    own : {n : ℕ} (g : Field) → codeAt (position g) k ≡ n → (position f ≡ position g → code ≡ n) → codeAt (position g) (recoded (position f) code k) ≡ n
+    own g e same =
+        by-test (eqb (position f) (position g))
+        (λ q. let p = eqb-true (position f) (position g) q in ap (λ (i : ℕ). codeAt i (recoded (position f) code k)) (sym p) ∙ (code-same k f code (kept .full) held ∙ same p))
+        (λ q. code-other k f code g (eqb-false _ _ q) ∙ e)
+
+pub recode-kept : {a c : ℕ} (k : Knowledge) (f : Field) (code : ℕ) → Kept a c k → Held f → position access < position f
+    → (k .alive ≡ true → (n : ℕ) × (has f code n ≡ true)) → Kept a c (recoded (position f) code k)
+recode-kept k f code kept held beyond left = recode-kept-any k f code kept held (λ e. absurd (omega arith)) (λ e. absurd (omega arith)) left

@@ -13,10 +13,10 @@ use Rattle.base.proofs.Tests.{by-test, between-yes}
 use Rattle.state.specs.declared.Record.{Record}
 use Rattle.state.specs.declared.Range.{Range}
 use Rattle.state.specs.Parameter.{parameterCount, range}
-use Rattle.state.specs.Field.{Field, access, value, get, put, position, fieldRange, off, on}
+use Rattle.state.specs.Field.{Field, access, value, get, put, position, fieldRange, off, on, Held}
 use Rattle.state.specs.Valid.{within, valid}
 use Rattle.state.specs.Event.{flagAfter, replaced}
-use Rattle.state.proofs.Fields.{Held, same-field, get-put-other}
+use Rattle.state.proofs.Fields.{same-field, get-put-other}
 use Rattle.state.proofs.Kept.{get-put-own, put-kept}
 use Rattle.state.proofs.Whole.{put-over, range-wide, low-within}
 use Rattle.knowledge.specs.declared.Knowledge.{Knowledge}

@@ -1,30 +1,29 @@
 -- At the start exactly the valid records with the address and the access are possible; what is kept gives the address and the access of
 -- each possible record, and, while alive, a possible record. The codes are read by the fields' positions. Assumes nothing.
 use Prim.Native.Nat.{ℕ, zero, suc, _+_, _-_, _*_, _≤_, _<_}
-use mathlib.Core.Bool.{Bool, true, false}
+use mathlib.Core.Bool.{true}
 use mathlib.Core.Path.{_≡_, refl, sym, ap, _∙_}
 use mathlib.Core.List.{List, [], _∷_, map}
 use mathlib.Core.Logic.{⊎-elim}
 use native.Mathlib.Nat.{not-suc-le-zero, le-of-suc-le-suc}
 use native.Mathlib.Omega.{arith}
-use lib.Dec.{ltb}
 use lib.ListN.{length, getD, length-append, List·getD-append}
 use lib.Seq.{getD-append-add}
-use borrow.Author.Tests.{ltb-true, ltb-false}
 use Rattle.base.proofs.Tests.{below-or-not}
 use Rattle.state.specs.declared.Record.{Record}
 use Rattle.state.specs.Parameter.{parameterCount}
-use Rattle.state.specs.Field.{Field, address, access, value, level, get, position, fieldRange, scalarFields, scalarCount, fieldsFor, parameterFields, recordFrom}
+use Rattle.state.specs.Field.{Field, address, access, value, level, get, position, fieldRange, scalarFields, scalarCount, fieldsFor, parameterFields, Held}
 use Rattle.state.specs.Valid.{within, valid}
-use Rattle.state.proofs.Fields.{Held, same-field, scalar-at}
+use Rattle.state.proofs.Fields.{same-field, scalar-at}
 use Rattle.state.proofs.Kept.{field-in}
-use Rattle.state.proofs.Whole.{get-from, from-valid, low-within}
+use Rattle.state.proofs.Whole.{low-within}
 use Rattle.knowledge.specs.declared.Knowledge.{Knowledge}
 use Rattle.knowledge.specs.Sets.{single, kindOf, only, has, any}
 use Rattle.knowledge.specs.Knowledge.{codeAt, recoded, unknown, start}
 use Rattle.knowledge.proofs.Possible.{Possible, Kept}
 use Rattle.knowledge.proofs.Recode.{code-same, code-other, recode-left, recode-some}
-use Rattle.knowledge.proofs.Codes.{has-within, has-only, only-has, only-self, only-same, never-any, any-has}
+use Rattle.knowledge.proofs.Product.{chosen, some-number}
+use Rattle.knowledge.proofs.Codes.{has-only, only-has, only-self, only-same, never-any, any-has}
 
 -- ---- the address and the access that are kept
 own-number : (k : Knowledge) (r : Record) (f : Field) (n : ℕ) → kindOf f ≡ single → Held f → codeAt (position f) k ≡ n → within (fieldRange f) n ≡ true
@@ -41,27 +40,9 @@ module _ {a c : ℕ} (k : Knowledge) (r : Record) (kept : Kept a c k) where
 
 -- ---- while alive there is a possible record: each field holds a number of its set
 pub some-record : {a c : ℕ} (k : Knowledge) → Kept a c k → k .alive ≡ true → (r : Record) × Possible k r
-some-record k kept alive = (
-  recordFrom number-of,
-  record {
-    living = alive;
-    sound = from-valid number-of inside;
-    each = λ f h. ap (has f (codeAt (position f) k)) (get-from number-of inside f h) ∙ found f .1 h;
-  },
-)
-  where
-    found : (f : Field) → (n : ℕ) × (Held f → has f (codeAt (position f) k) n ≡ true)
-    found f = go (ltb (position f) (position (value parameterCount))) refl
-      where
-        go : (b : Bool) → ltb (position f) (position (value parameterCount)) ≡ b → (n : ℕ) × (Held f → has f (codeAt (position f) k) n ≡ true)
-        go true e = let s = kept .some alive f (ltb-true _ _ e) in (s .0, λ h. s .1)
-        go false e = (0, λ h. let l = ltb-false (position f) (position (value parameterCount)) e in absurd (omega arith))
-
-    number-of : Field → ℕ
-    number-of f = found f .0
-
-    inside : (f : Field) → Held f → within (fieldRange f) (number-of f) ≡ true
-    inside f h = has-within f (codeAt (position f) k) (number-of f) (found f .1 h)
+some-record k kept alive =
+    let (r, t, same) = chosen k alive (λ f. some-number k kept alive f .0) (λ f. some-number k kept alive f .1) in
+    (r, t)
 
 -- ---- the codes where nothing is known
 

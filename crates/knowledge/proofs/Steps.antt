@@ -6,19 +6,20 @@ use mathlib.Core.List.{List, [], _∷_, _++_, map, map-append, append-assoc, app
 use native.Mathlib.Numerals.{add-one}
 use native.Mathlib.Omega.{arith}
 use lib.Dec.{eqb}
-use lib.ListN.{List·getD-eq-default, length, getD, set, replicate, length-set, length-append}
+use lib.ListN.{List·getD-eq-default, length, getD, set, take, drop, replicate, length-set, length-append, drop-of-length-le}
 use lib.Seq.{set-out, set-at}
 use lib.Bits.{bitAnd}
 use borrow.Author.Tests.{eq-eqb, ne-eqb, le-leb, lt-leb, lt-ltb, le-ltb, not-true, not-false}
+use Rattle.base.proofs.Lists.{copy-again, copy-done}
 use Rattle.base.proofs.Tests.{between-yes, between-no}
 use Rattle.state.specs.declared.Range.{Range}
 use Rattle.state.specs.Parameter.{parameterCount}
 use Rattle.state.specs.Alarm.{noAlarm, allAlarms, lasting}
-use Rattle.state.specs.Field.{address, access, number, alarms, value, level, position, fieldRange, fieldsFor}
+use Rattle.state.specs.Field.{address, access, number, alarms, value, level, position, fieldCount, fieldRange, fieldsFor}
 use Rattle.state.specs.Valid.{within}
 use Rattle.knowledge.specs.declared.Knowledge.{Knowledge}
 use Rattle.knowledge.specs.Sets.{bit, maskFrom, anyNumber, anyLasting, above, alarmsIn, justAlarms, resetCode, onMask, orOn, flagCode, has, any, alone}
-use Rattle.knowledge.specs.Knowledge.{codeAt, dead, recoded, restricted, told, settled, advanced, alarmsLeft, replacing, start}
+use Rattle.knowledge.specs.Knowledge.{codeAt, dead, recoded, restricted, told, settled, advanced, alarmsLeft, replacing, start, lentIn, laidIn}
 
 -- ---- one code: beyond the last position there is none
 module _ (k : Knowledge) (p n : ℕ) (full : length (k .codes) ≡ n) (beyond : n ≤ p) where
@@ -217,6 +218,44 @@ module _ (a c : ℕ) where
     begun-all l u =
         let n : i ≡ parameterCount = omega arith in
         ap (λ (ys : List ℕ). record { alive = true; codes = ys }) (e ∙ (ap begun n ∙ append-nil (codesFor parameterCount)))
+
+-- ---- codes in lent memory
+pub lent-short : (cs : List ℕ) → length cs < fieldCount → record { alive = false; codes = replicate fieldCount 0 } ≡ lentIn cs
+unfolding lentIn
+lent-short cs h = simp (lt-leb _ _ h)
+
+pub lent-again : (cs own₀ own : List ℕ) (i : ℕ) → i < fieldCount → fieldCount ≤ length cs → length own₀ ≡ fieldCount → own ≡ take i cs ++ drop i own₀
+    → set own i (getD cs i 0) ≡ take (i + 1) cs ++ drop (i + 1) own₀
+lent-again cs own₀ own i h k l e = copy-again cs own₀ own i (omega arith) (omega arith) e
+
+-- the copy covers all that there was
+pub lent-all : (cs own₀ own : List ℕ) (i : ℕ) → fieldCount ≤ length cs → length own₀ ≡ fieldCount → i ≤ fieldCount → fieldCount ≤ i
+    → own ≡ take i cs ++ drop i own₀ → record { alive = true; codes = own } ≡ lentIn cs
+unfolding lentIn
+lent-all cs own₀ own i h l low high e =
+    let n : i ≡ fieldCount = omega arith in
+    let m : length own₀ ≤ fieldCount = omega arith in
+    let z : own ≡ take fieldCount cs =
+    e ∙ (ap (λ (j : ℕ). take j cs ++ drop j own₀) n
+    ∙ (ap (λ (ys : List ℕ). take fieldCount cs ++ ys) (drop-of-length-le own₀ m) ∙ append-nil (take fieldCount cs))) in
+    ap (λ (ys : List ℕ). record { alive = true; codes = ys }) z ∙ simp (le-leb _ _ h)
+
+pub laid-short : (cs o : List ℕ) → length o < fieldCount → (false, o) ≡ laidIn cs o
+unfolding laidIn
+laid-short cs o h = simp (lt-leb _ _ h)
+
+pub laid-again : (cs o d : List ℕ) (i : ℕ) → i < fieldCount → length cs ≡ fieldCount → fieldCount ≤ length o → d ≡ take i cs ++ drop i o
+    → set d i (getD cs i 0) ≡ take (i + 1) cs ++ drop (i + 1) o
+laid-again cs o d i h l k e = copy-again cs o d i (omega arith) (omega arith) e
+
+pub laid-all : (cs o d : List ℕ) (i : ℕ) → fieldCount ≤ length o → length cs ≡ fieldCount → i ≤ fieldCount → fieldCount ≤ i
+    → d ≡ take i cs ++ drop i o → (true, d) ≡ laidIn cs o
+unfolding laidIn
+laid-all cs o d i h l low high e = ap (λ (ys : List ℕ). (true, ys)) (copy-done cs o d i (omega arith) (omega arith) e) ∙ simp (le-leb _ _ h)
+
+pub ruleset lending = (lent-short, lent-again, lent-all)
+
+pub ruleset laying = (laid-short, laid-again, laid-all)
 
 pub ruleset beyond = (code-beyond, put-beyond)
 

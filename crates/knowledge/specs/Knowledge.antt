@@ -1,14 +1,15 @@
 -- What is known of a record: for each field the code of a set, at the field's position. Dead: no record is possible.
 use Prim.Native.Nat.{ℕ}
 use mathlib.Core.Bool.{Bool, true, false, _&&_}
-use mathlib.Core.List.{map}
-use lib.Dec.{eqb}
-use lib.ListN.{getD, set}
+use mathlib.Core.List.{List, map}
+use lib.Dec.{eqb, leb, ltb}
+use lib.ListN.{length, getD, set, take, replicate}
 use lib.Bits.{bitAnd}
-use Rattle.base.specs.Test.{pick}
+use Rattle.base.specs.Test.{pick, unless}
+use Rattle.base.specs.Lists.{over}
 use Rattle.state.specs.declared.Range.{Range}
 use Rattle.state.specs.Parameter.{parameterCount}
-use Rattle.state.specs.Field.{Field, address, access, number, alarms, position, fieldRange, fieldsFor}
+use Rattle.state.specs.Field.{Field, address, access, number, alarms, position, fieldAt, fieldCount, fieldRange, fieldsFor}
 use Rattle.state.specs.Valid.{within}
 use Rattle.knowledge.specs.declared.Knowledge.{Knowledge}
 use Rattle.knowledge.specs.Sets.{any, alone, maskIn, only, has, nextCode, resetCode, flagCode}
@@ -16,6 +17,14 @@ use Rattle.knowledge.specs.Sets.{any, alone, maskIn, only, has, nextCode
 -- the code at a position, 0 beyond the last
 unfoldable pub codeAt : ℕ → Knowledge → ℕ
 codeAt p k = getD (k .codes) p 0
+
+-- ---- the sets: whether a field's has a number
+unfoldable pub setsOf : Knowledge → Field → ℕ → Bool
+setsOf k f n = has f (codeAt (position f) k) n
+
+-- the same by the field's position and the code; there is no field beyond the last
+unfoldable pub mayHold : ℕ → ℕ → ℕ → Bool
+mayHold p c n = ltb p fieldCount && has (fieldAt p) c n
 
 -- no record is possible
 abbrev pub dead : Knowledge → Knowledge
@@ -68,3 +77,14 @@ unknown = record { alive = true; codes = map any (fieldsFor parameterCount) }
 -- at the start the address and the access are known, and nothing else
 unfoldable pub start : ℕ → ℕ → Knowledge
 start a c = recoded (position access) c (recoded (position address) a unknown)
+
+-- ---- codes in lent memory: one for each field at the start, and the rest stays
+abbrev pub roomFor : List ℕ → Bool
+roomFor o = leb fieldCount (length o)
+
+-- what is known by them, if there are enough; else no record is possible
+unfoldable pub lentIn : List ℕ → Knowledge
+lentIn o = unless (roomFor o) (record { alive = false; codes = replicate fieldCount 0 }) (record { alive = true; codes = take fieldCount o })
+
+unfoldable pub laidIn : List ℕ → List ℕ → Bool × List ℕ
+laidIn cs o = unless (roomFor o) (false, o) (true, over cs o)

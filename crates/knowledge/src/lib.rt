@@ -1,16 +1,23 @@
 // What is known of a controller's record: one set for each field, as a code at the field's position.
+use state::ACCESS_RANGE;
+use state::ADDRESS_RANGE;
 use state::ALARMS_RANGE;
+use state::LEVEL_RANGE;
 use state::NUMBER_RANGE;
 use state::PARAMETERS;
+use state::PHASE_RANGE;
+use state::PRESET_RANGE;
+use state::RAW_RANGE;
 use state::RECIPE_RANGE;
 use state::Range;
 use state::within;
 ghost use mathlib.Core.Path.{_≡_};
 ghost use Prim.Native.Nat.{_≤_};
+ghost use Rattle.base.specs.Test.{pick};
 ghost use Rattle.state.specs.Alarm.{allAlarms};
-ghost use Rattle.state.specs.Field.{changed, alarms, position};
-ghost use Rattle.knowledge.specs.Sets.{has, alone, resetCode, flagCode};
-ghost use Rattle.knowledge.specs.Knowledge.{codeAt, dead, recoded, restricted, told, settled, advanced, alarmsLeft, replacing, start};
+ghost use Rattle.state.specs.Field.{changed, alarms, position, fieldAt, fieldRange};
+ghost use Rattle.knowledge.specs.Sets.{several, single, kindOf, has, alone, resetCode, flagCode};
+ghost use Rattle.knowledge.specs.Knowledge.{codeAt, mayHold, lentIn, laidIn, dead, recoded, restricted, told, settled, advanced, alarmsLeft, replacing, start};
 
 // The fields' positions; a parameter has its value and its level behind one another.
 pub const ADDRESS: usize = 0;
@@ -116,6 +123,43 @@ pub fn begin(address: u8, access: u8) -> Knowledge
     }
 }
 
+// What is known by lent codes, one for each field at the start; if these are too few, no record is possible.
+pub fn lent(codes: &[u32]) -> Knowledge
+    ensures { λ k. ⌜ k ≡ lentIn (now (codes .entry)) ⌝ }
+{
+    let mut own = [0; FIELDS];
+    if codes.len() < FIELDS {
+        return Knowledge {
+            alive: false,
+            codes: own,
+        };
+    }
+    let mut i = 0;
+    while i < FIELDS {
+        own[i] = codes[i];
+        i += 1;
+    }
+    Knowledge {
+        alive: true,
+        codes: own,
+    }
+}
+
+// Lays codes at the start of a buffer, if it has room for all.
+pub fn lay(codes: [u32; FIELDS], out: &mut [u32]) -> bool
+    ensures { λ b. ⌜ (b, now (out .exit)) ≡ laidIn codes (now (out .entry)) ⌝ }
+{
+    if out.len() < FIELDS {
+        return false;
+    }
+    let mut i = 0;
+    while i < FIELDS {
+        out[i] = codes[i];
+        i += 1;
+    }
+    true
+}
+
 // ---- the alarms
 
 // These may be on, by the code of the alarms.
@@ -178,6 +222,90 @@ fn flag_after(flag: u32, held: u32, n: u32) -> u32
         return flag | ON;
     }
     ON
+}
+
+// ---- any field, by its position
+
+// A flag as a number: off or on.
+const FLAG_RANGE: Range = Range { low: 0, high: 1 };
+
+// The ends of the range of each field but the parameters'.
+const LOWS: [u32; VALUES] = [
+    ADDRESS_RANGE.low,
+    ACCESS_RANGE.low,
+    PHASE_RANGE.low,
+    FLAG_RANGE.low,
+    FLAG_RANGE.low,
+    FLAG_RANGE.low,
+    FLAG_RANGE.low,
+    FLAG_RANGE.low,
+    RECIPE_RANGE.low,
+    PRESET_RANGE.low,
+    RAW_RANGE.low,
+    NUMBER_RANGE.low,
+    ALARMS_RANGE.low,
+];
+
+const HIGHS: [u32; VALUES] = [
+    ADDRESS_RANGE.high,
+    ACCESS_RANGE.high,
+    PHASE_RANGE.high,
+    FLAG_RANGE.high,
+    FLAG_RANGE.high,
+    FLAG_RANGE.high,
+    FLAG_RANGE.high,
+    FLAG_RANGE.high,
+    RECIPE_RANGE.high,
+    PRESET_RANGE.high,
+    RAW_RANGE.high,
+    NUMBER_RANGE.high,
+    ALARMS_RANGE.high,
+];
+
+// The range of a field; those of a parameter beyond the last count as well.
+fn range_of(field: usize) -> Range
+    ensures { λ r. ⌜ r ≡ fieldRange (fieldAt field) ⌝ }
+{
+    if field < VALUES {
+        return Range {
+            low: LOWS[field],
+            high: HIGHS[field],
+        };
+    }
+    if (field - VALUES) % 2 == 0 {
+        return state::range_at((field - VALUES) / 2);
+    }
+    LEVEL_RANGE
+}
+
+// The field has few numbers, so that its set is a mask; the alarms have neither a mask nor a single number.
+fn has_mask(field: usize) -> bool
+    requires { ⌜ (field ≡ position alarms → ⊥) ⌝ }
+    ensures { λ b. ⌜ pick b several single ≡ kindOf (fieldAt field) ⌝ }
+{
+    if field < VALUES {
+        return (PHASE <= field) & (field <= RECIPE);
+    }
+    (field - VALUES) % 2 != 0
+}
+
+// Whether the set of a field has a number; beyond the last field none has.
+pub fn may_hold(field: usize, code: u32, n: u32) -> bool
+    ensures { λ b. ⌜ b ≡ mayHold field code n ⌝ }
+{
+    if FIELDS <= field {
+        return false;
+    }
+    if field == ALARMS {
+        return may_be_on(code, n);
+    }
+    if !within(range_of(field), n) {
+        return false;
+    }
+    if has_mask(field) {
+        return (code >> n) % 2 == 1;
+    }
+    (code == ANY) | (code == n)
 }
 
 impl Knowledge {

@@ -10,8 +10,7 @@ use borrow.Author.Tests.{eq-eqb, ne-eqb, eqb-true, eqb-false, not-true}
 use Rattle.base.specs.Test.{pick, member}
 use Rattle.base.proofs.Tests.{by-test, and-yes, and-left, and-right}
 use Rattle.state.specs.declared.Record.{Record}
-use Rattle.state.specs.Field.{Field, phase, keypad, level, get}
-use Rattle.state.proofs.Fields.{Held}
+use Rattle.state.specs.Field.{Field, phase, keypad, level, get, Held}
 use Rattle.command.specs.Commands.{Arguments}
 use Rattle.command.specs.Refusals.{Row, byText, byArguments, byField, rowNumber, keypadTaken, levelAbove, wrongPhase, refusals}
 use Rattle.command.specs.Answer.{NO, accepted}

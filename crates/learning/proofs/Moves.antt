@@ -7,9 +7,8 @@ use mathlib.Core.List.{List, [], _∷_}
 use native.Mathlib.Omega.{arith}
 use Rattle.state.specs.declared.Record.{Record}
 use Rattle.state.specs.Parameter.{parameterCount, rangeAt}
-use Rattle.state.specs.Field.{Field, access, changed, value, position, fieldRange, get, put}
+use Rattle.state.specs.Field.{Field, access, changed, value, position, fieldRange, get, put, Held}
 use Rattle.state.specs.Valid.{within}
-use Rattle.state.proofs.Fields.{Held}
 use Rattle.command.specs.Commands.{Change, becomes, nextBatch, resetAlarms, newValue, afterChange, applied}
 use Rattle.command.proofs.Tables.{FitsRecord, Fitting}
 use Rattle.knowledge.specs.declared.Knowledge.{Knowledge}
@@ -26,7 +25,7 @@ pub record Follows (move : Knowledge → Knowledge) (change : Record → Record)
   pub keeps : {a c : ℕ} (k : Knowledge) → Kept a c k → Kept a c (move k)
 
 -- nothing moves
-stays : Follows (λ k. k) (λ r. r)
+pub stays : Follows (λ k. k) (λ r. r)
 stays = record { onward = λ k r kept t. t; back = λ k s kept t. (s, t, refl); keeps = λ k kept. kept }
 
 -- one change, and then another

@@ -45,19 +45,31 @@ unfoldable pub moved : List Change → Knowledge → Knowledge
 moved [] k = k
 moved (c ∷ cs) k = movedBy c (moved cs k)
 
--- ---- the reply NO n, and any other; a is the access
-abbrev pub afterRefusal : ℕ → Asked → ℕ → Knowledge → Knowledge
-afterRefusal a (refused m) n k = pick (eqb n m) k (dead k)
-afterRefusal a (asked c x) n k = refusedBy n (guardsOf a (asked c x)) k
+-- ---- what the reply NO n, and any other, tells of the record that it came from; a is the access
+abbrev pub refusalHeard : ℕ → Asked → ℕ → Knowledge → Knowledge
+refusalHeard a (refused m) n k = pick (eqb n m) k (dead k)
+refusalHeard a (asked c x) n k = refusedBy n (guardsOf a (asked c x)) k
 
-abbrev pub afterAcceptance : ℕ → Asked → List ℕ → Knowledge → Knowledge
-afterAcceptance a (refused m) b k = dead k
-afterAcceptance a (asked c x) b k = moved (changesOf (asked c x)) (shown (replyOf (asked c x)) b (passed (guardsOf a (asked c x)) k))
+abbrev pub acceptanceHeard : ℕ → Asked → List ℕ → Knowledge → Knowledge
+acceptanceHeard a (refused m) b k = dead k
+acceptanceHeard a (asked c x) b k = shown (replyOf (asked c x)) b (passed (guardsOf a (asked c x)) k)
 
--- ---- a request and what was replied
-abbrev pub byReply : Digits → ℕ → Asked → List ℕ → Knowledge → Knowledge
-byReply (digitsRead.Number n) a q b k = afterRefusal a q n k
-byReply digitsRead.Nothing a q b k = afterAcceptance a q b k
+abbrev pub heardBy : Digits → ℕ → Asked → List ℕ → Knowledge → Knowledge
+heardBy (digitsRead.Number n) a q b k = refusalHeard a q n k
+heardBy digitsRead.Nothing a q b k = acceptanceHeard a q b k
+
+-- a request and what was replied, before anything changes
+unfoldable pub heardOf : ℕ → Asked → List ℕ → Knowledge → Knowledge
+heardOf a q b k = heardBy (refusalIn b) a q b k
+
+-- ---- the same, and what changes then: nothing at a refusal
+abbrev pub movedUnless : Digits → Asked → Knowledge → Knowledge
+movedUnless (digitsRead.Number n) q k = k
+movedUnless digitsRead.Nothing q k = moved (changesOf q) k
 
 unfoldable pub learnOf : ℕ → Asked → List ℕ → Knowledge → Knowledge
-learnOf a q b k = byReply (refusalIn b) a q b k
+learnOf a q b k = movedUnless (refusalIn b) q (heardOf a q b k)
+
+-- ---- of the record as the request leaves it, or as it was when the reply came
+unfoldable pub taughtOf : Bool → ℕ → Asked → List ℕ → Knowledge → Knowledge
+taughtOf after a q b k = pick after (learnOf a q b k) (heardOf a q b k)

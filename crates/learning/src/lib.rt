@@ -38,7 +38,7 @@ ghost use Rattle.state.specs.Field.{phase};
 ghost use Rattle.knowledge.specs.Sets.{any};
 ghost use Rattle.knowledge.specs.Knowledge.{restricted};
 ghost use Rattle.command.specs.Request.{levelGuards, phaseGuards, alarmGuards, guardsAs, changesOf, writingAs, requestAs};
-ghost use Rattle.learning.specs.Learn.{letThrough, allowedLevels, passed, refusedBy, moved, afterRefusal, afterAcceptance, learnOf};
+ghost use Rattle.learning.specs.Learn.{letThrough, allowedLevels, passed, refusedBy, moved, refusalHeard, acceptanceHeard, taughtOf};
 
 // ---- the refusals that look at the record
 
@@ -183,11 +183,22 @@ fn move_on(k: Knowledge, request: Writing) -> Knowledge
     }
 }
 
+// Nothing but a write changes the record.
+fn changed(k: Knowledge, request: Request) -> Knowledge
+    ensures { λ r. ⌜ r ≡ moved (changesOf (requestAs request)) k ⌝ }
+{
+    match request {
+        Request::Refused(_) => k,
+        Request::Read(_) => k,
+        Request::Write(writing) => move_on(k, writing),
+    }
+}
+
 // ---- a request and its reply
 
 // The reply was NO and n.
 fn refuse(k: Knowledge, access: u8, request: Request, n: u32) -> Knowledge
-    ensures { λ r. ⌜ r ≡ afterRefusal access (requestAs request) n k ⌝ }
+    ensures { λ r. ⌜ r ≡ refusalHeard access (requestAs request) n k ⌝ }
 {
     match request {
         Request::Refused(refusal) => {
@@ -203,24 +214,31 @@ fn refuse(k: Knowledge, access: u8, request: Request, n: u32) -> Knowledge
 
 // The reply was no refusal.
 fn accept(k: Knowledge, access: u8, request: Request, s: &[u8]) -> Knowledge
-    ensures { λ r. ⌜ r ≡ afterAcceptance access (requestAs request) (now (s .entry)) k ⌝ }
+    ensures { λ r. ⌜ r ≡ acceptanceHeard access (requestAs request) (now (s .entry)) k ⌝ }
 {
     match request {
         Request::Refused(_) => k.refuted(),
         Request::Read(reading) => showing::show(k, reading, s),
         Request::Write(writing) => {
             let through = pass(k, access, command::guards_of(access, writing));
-            move_on(showing::show_ok(through, s), writing)
+            showing::show_ok(through, s)
         }
     }
 }
 
-// What a request and its reply, behind the address digits, teach to one who knows the link's access.
-pub fn learn(k: Knowledge, access: u8, request: Request, reply: &[u8]) -> Knowledge
-    ensures { λ r. ⌜ r ≡ learnOf access (requestAs request) (now (reply .entry)) k ⌝ }
+// What a request and its reply, behind the address digits, teach to one who knows the link's access: of the record as the request leaves
+// it, or as it was when the reply came.
+pub fn learn(k: Knowledge, access: u8, request: Request, reply: &[u8], after: bool) -> Knowledge
+    ensures { λ r. ⌜ r ≡ taughtOf after access (requestAs request) (now (reply .entry)) k ⌝ }
 {
     match showing::refusal_in(reply) {
         Digits::Number(n) => refuse(k, access, request, n),
-        Digits::Nothing => accept(k, access, request, reply),
+        Digits::Nothing => {
+            let shown = accept(k, access, request, reply);
+            if after {
+                return changed(shown, request);
+            }
+            shown
+        }
     }
 }

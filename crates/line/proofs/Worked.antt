@@ -13,7 +13,8 @@ use Rattle.controller.specs.Worked as controller
 use Rattle.controller.specs.Worked.{Step, EQ-frame, status-frame, OK-frame, framed, _gets_, replies, check}
 use Rattle.recording.specs.Replay.{fits, refuted}
 use Rattle.recording.specs.Statement.{Judgement, judged, Demand3}
-use Rattle.judging.specs.Judge.{judgementOf, exchangeLearnt, replyLearnt, textLearnt, silenceKept}
+use Rattle.hearing.specs.Hearing.{silenceSaid, replySaid, saidOf, exchangeLearnt}
+use Rattle.judging.specs.Judge.{judgementOf}
 use Rattle.recording.specs.Form.{recordingOf, exchangesIn}
 use Rattle.recording.specs.Progress.{passed, answerOf}
 use Rattle.base.specs.Test.{allBetween}
@@ -28,7 +29,7 @@ use Rattle.knowledge.specs.Knowledge.{codeAt, restricted, told, becoming, advan
 use Rattle.showing.specs.Heard.{numberBehind, weightLit, charactersFormed}
 use Rattle.showing.specs.Shown.{shown, bitsShown, charactersShown, statusShown, wordShown, codesShown, listShown}
 use Rattle.learning.specs.Learn as through
-use Rattle.learning.specs.Learn.{learnOf, refusedBy, moved}
+use Rattle.learning.specs.Learn.{heardOf, learnOf, refusedBy, moved}
 use Rattle.judging.proofs.Theorem.{judgement-right}
 use Rattle.line.specs.Line.{newline, lineOf}
 
@@ -112,7 +113,7 @@ AllComputed [] = Unit {0}
 AllComputed (e ∷ es) = Computed e × AllComputed es
 
 computed : AllComputed table
-unfolding check judgementOf recordingOf exchangesIn answerOf passed exchangeLearnt replyLearnt textLearnt silenceKept addressOf locateOf withinLimits marksRight checkRight xorFrom textIn allBetween namesUnit addressIn frameOf digits equal valueFrom askedIn askedFor askedWith firstByText firstByArguments guardsIn rowOf codeIn formed digitsBetween learnOf numberBehind numberFor through.passed refusedBy shown statusShown charactersFormed weightLit charactersShown bitsShown listShown codesShown wordShown moved restricted told codeAt becoming advanced replacing flagCode start maskFrom bit parameterCode rangeAt placeOf placeIn widthIn decimal lineOf
+unfolding check judgementOf recordingOf exchangesIn answerOf passed exchangeLearnt saidOf replySaid silenceSaid addressOf locateOf withinLimits marksRight checkRight xorFrom textIn allBetween namesUnit addressIn frameOf digits equal valueFrom askedIn askedFor askedWith firstByText firstByArguments guardsIn rowOf codeIn formed digitsBetween heardOf learnOf numberBehind numberFor through.passed refusedBy shown statusShown charactersFormed weightLit charactersShown bitsShown listShown codesShown wordShown moved restricted told codeAt becoming advanced replacing flagCode start maskFrom bit parameterCode rangeAt placeOf placeIn widthIn decimal lineOf
 computed = (
   controller.worked,
   (refl, refl, refl) also (refl, refl, refl) also (refl, refl, refl) also (refl, refl, refl) also (refl, refl, refl) also

@@ -2,3 +2,4 @@ pub mod Form
 pub mod Replay
 pub mod Statement
 pub mod Progress
+pub mod Known

@@ -19,6 +19,15 @@ module _ {S E : Type 0} (step : S → E → S) (Agree : S → E → Type 0) wher
   abbrev pub SomeAgrees : (S → Type 0) → List E → Type 0
   SomeAgrees Start es = (s : S) × Start s × AllAgree s es
 
+  -- the state after them
+  abbrev pub afterAll : S → List E → S
+  afterAll s [] = s
+  afterAll s (e ∷ es) = afterAll (step s e) es
+
+  -- some such state agrees with all of them, and is t after them
+  abbrev pub SomeLeads : (S → Type 0) → List E → S → Type 0
+  SomeLeads Start es t = (s : S) × Start s × AllAgree s es × (afterAll s es ≡ t)
+
 -- "The answer is `fits N` exactly when for some such record all N agree. Otherwise it is `refuted at I of N`, where for some
 -- such record all exchanges before I agree, and for none all up to and including I."
 abbrev pub Right : {E : Type 0} → (List E → Type 0) → List E → Answer → Type 0

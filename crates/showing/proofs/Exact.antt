@@ -10,8 +10,7 @@ use Rattle.base.specs.Text.{text}
 use Rattle.state.specs.declared.Record.{Record}
 use Rattle.state.specs.Parameter.{codeAt}
 use Rattle.state.specs.Alarm.{characterValues}
-use Rattle.state.specs.Field.{access, alarms, get, position, fieldRange}
-use Rattle.state.proofs.Fields.{Held}
+use Rattle.state.specs.Field.{access, alarms, get, position, fieldRange, Held}
 use Rattle.text.specs.declared.Digits.the-variants as digitsRead
 use Rattle.text.specs.Word.{space, digits, equal}
 use Rattle.command.specs.Status.{statusCharacters, alarmCharacters}

@@ -11,9 +11,8 @@ use Rattle.base.specs.Test.{unless}
 use Rattle.base.proofs.Tests.{and-left, and-right, between-high}
 use Rattle.state.specs.declared.Record.{Record}
 use Rattle.state.specs.Parameter.{parameterCount}
-use Rattle.state.specs.Field.{Field, access, value, get, position, fieldRange}
+use Rattle.state.specs.Field.{Field, access, value, get, position, fieldRange, Held}
 use Rattle.state.specs.Valid.{valid}
-use Rattle.state.proofs.Fields.{Held}
 use Rattle.state.proofs.Kept.{field-in}
 use Rattle.text.specs.declared.Digits.{Digits}
 use Rattle.text.specs.declared.Digits.the-variants.{Number, Nothing}

@@ -7,13 +7,13 @@ use native.Mathlib.Omega.{arith}
 use lib.Dec.{eqb, leb, ltb}
 use lib.ListN.{length, getD, set, length-set, List·getD-map, List·getD-eq-default}
 use lib.Seq.{getD-set-same, getD-set-other}
-use borrow.Author.Tests.{eq-eqb, ne-eqb, eqb-true, eqb-false, le-leb, leb-true, le-ltb, ltb-true}
+use borrow.Author.Tests.{eq-eqb, ne-eqb, eqb-true, eqb-false, le-leb, leb-true, le-ltb, ltb-true, ltb-false}
 use Rattle.state.specs.declared.Phase.{Phase}
 use Rattle.state.specs.declared.Phase.the-variants.{Idle, Set, Running, Stopped, Done}
 use Rattle.state.specs.declared.Record.{Record}
 use Rattle.base.specs.Test.{pick, between}
 use Rattle.state.specs.Parameter.{parameterCount}
-use Rattle.state.specs.Field.{Field, address, access, phase, keypad, flow, changed, reset, powerfail, recipe, preset, raw, number, alarms, value, level, get, put, putAt, is, position, fieldRange, scalarFields, scalarCount, phaseNumber, phaseOf, flagNumber, flagOf, off, on}
+use Rattle.state.specs.Field.{Field, address, access, phase, keypad, flow, changed, reset, powerfail, recipe, preset, raw, number, alarms, value, level, get, put, putAt, is, position, fieldAt, fieldRange, scalarFields, scalarCount, phaseNumber, phaseOf, flagNumber, flagOf, off, on, Held}
 use Rattle.state.specs.Valid.{within}
 use Rattle.base.proofs.Tests.{by-test, and-no, and-left, and-right, between-high, holds-below}
 
@@ -40,30 +40,25 @@ unfolding phaseOf
 phase-number n h = eqb-true _ _ (holds-below (λ (m : ℕ). eqb (phaseNumber (phaseOf m)) m) 5 refl n (omega arith))
 
 -- ---- a field is known by its position
-decode : ℕ → Field
-decode n =
-    pick (ltb n scalarCount) (getD scalarFields n address)
-    (pick (eqb ((n - scalarCount) % 2) 0) (value ((n - scalarCount) / 2)) (level ((n - scalarCount) / 2)))
-
-decode-position : (f : Field) → decode (position f) ≡ f
-unfolding decode
-decode-position address = refl
-decode-position access = refl
-decode-position phase = refl
-decode-position keypad = refl
-decode-position flow = refl
-decode-position changed = refl
-decode-position reset = refl
-decode-position powerfail = refl
-decode-position recipe = refl
-decode-position preset = refl
-decode-position raw = refl
-decode-position number = refl
-decode-position alarms = refl
-decode-position (value i) =
+pub field-at : (f : Field) → fieldAt (position f) ≡ f
+unfolding fieldAt
+field-at address = refl
+field-at access = refl
+field-at phase = refl
+field-at keypad = refl
+field-at flow = refl
+field-at changed = refl
+field-at reset = refl
+field-at powerfail = refl
+field-at recipe = refl
+field-at preset = refl
+field-at raw = refl
+field-at number = refl
+field-at alarms = refl
+field-at (value i) =
     let p : ℕ = position (value i) in
     simp (le-ltb p scalarCount (omega arith), eq-eqb ((p - scalarCount) % 2) 0 (omega arith)) (ap value (omega arith))
-decode-position (level i) =
+field-at (level i) =
     let p : ℕ = position (level i) in
     simp (le-ltb p scalarCount (omega arith), ne-eqb ((p - scalarCount) % 2) 0 (λ e. omega arith)) (ap level (omega arith))
 
@@ -71,8 +66,21 @@ decode-position (level i) =
 pub scalar-at : (n : ℕ) → n < scalarCount → position (getD scalarFields n address) ≡ n
 scalar-at n h = eqb-true _ _ (holds-below (λ (j : ℕ). eqb (position (getD scalarFields j address)) j) scalarCount refl n h)
 
+pub position-at : (p : ℕ) → position (fieldAt p) ≡ p
+unfolding fieldAt
+position-at p = go (ltb p scalarCount) refl
+  where
+    pair : (b : Bool) → eqb ((p - scalarCount) % 2) 0 ≡ b → scalarCount ≤ p → position (pick b (value ((p - scalarCount) / 2)) (level ((p - scalarCount) / 2))) ≡ p
+    pair true e l = let h = eqb-true ((p - scalarCount) % 2) 0 e in omega arith
+    pair false e l = let h = eqb-false ((p - scalarCount) % 2) 0 e in omega arith
+
+    go : (b : Bool) → ltb p scalarCount ≡ b
+        → position (pick b (getD scalarFields p address) (pick (eqb ((p - scalarCount) % 2) 0) (value ((p - scalarCount) / 2)) (level ((p - scalarCount) / 2)))) ≡ p
+    go true e = scalar-at p (ltb-true _ _ e)
+    go false e = pair (eqb ((p - scalarCount) % 2) 0) refl (ltb-false _ _ e)
+
 pub same-field : (f g : Field) → position f ≡ position g → f ≡ g
-same-field f g e = sym (decode-position f) ∙ (ap decode e ∙ decode-position g)
+same-field f g e = sym (field-at f) ∙ (ap fieldAt e ∙ field-at g)
 
 -- what holds of a field and of each other one holds of any
 pub at-field : (f : Field) (P : Field → Type 0) → P f → ((g : Field) → (position f ≡ position g → ⊥) → P g) → (g : Field) → P g
@@ -82,8 +90,8 @@ at-field f P own other g =
 -- what holds of all but the parameters' fields, of each value and of each level holds of each field: so no law below has a case per field
 pub by-fields : (P : Field → Type 0) → ((n : ℕ) → n < scalarCount → P (getD scalarFields n address)) → ((i : ℕ) → P (value i)) → ((i : ℕ) → P (level i))
     → (f : Field) → P f
-unfolding decode
-by-fields P s v l f = subst P (decode-position f) (at (position f) (ltb (position f) scalarCount) refl)
+unfolding fieldAt
+by-fields P s v l f = subst P (field-at f) (at (position f) (ltb (position f) scalarCount) refl)
   where
     pair : (n : ℕ) (b : Bool) → P (pick b (value n) (level n))
     pair n true = v n
@@ -216,10 +224,6 @@ pub beyond : (xs : List ℕ) (i : ℕ) → length xs ≡ parameterCount → para
 beyond xs i l h = sym (List·getD-eq-default xs 0 (omega arith))
 
 -- ---- the same field
-
--- f is one of the record's fields: a parameter's place is below their number
-abbrev pub Held : Field → Type 0
-Held f = position f < position (value parameterCount)
 
 -- a number within the field's range is kept as it is
 pub pick-same : (b : Bool) (n : ℕ) → pick b n n ≡ n

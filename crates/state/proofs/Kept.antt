@@ -14,11 +14,11 @@ use Rattle.state.specs.declared.Record.{Record}
 use Rattle.base.specs.Test.{pick}
 use Rattle.state.specs.Parameter.{parameterCount}
 use Rattle.state.specs.Alarm.{isAlarm, raised, cleared, lasting}
-use Rattle.state.specs.Field.{Field, address, phase, keypad, flow, reset, powerfail, preset, raw, number, alarms, value, level, get, put, fieldRange, scalarFields, fieldsFor, parameterFields, on, off}
+use Rattle.state.specs.Field.{Field, address, phase, keypad, flow, reset, powerfail, preset, raw, number, alarms, value, level, get, put, fieldRange, scalarFields, fieldsFor, parameterFields, on, off, Held}
 use Rattle.state.specs.Valid.{within, allIn, fullLength, valid}
 use Rattle.state.specs.Event.{set, running, stopped, done, idle, inPhase, pulses, finished, powerBack, keypadOn, alarmChanged, happened, after, nextNumber, batchSet, started, halted, ended, alarmsReset, flagAfter, replaced}
 use Rattle.base.proofs.Tests.{by-test, and-yes, and-left, and-right, between-yes}
-use Rattle.state.proofs.Fields.{Held, by-fields, scalar-at, at-field, get-put-same, get-put-other, put-values-length, put-levels-length}
+use Rattle.state.proofs.Fields.{by-fields, scalar-at, at-field, get-put-same, get-put-other, put-values-length, put-levels-length}
 use Rattle.state.proofs.Alarms.{raised-within, cleared-within, lasting-within}
 use Rattle.state.proofs.Validity.{all-at, all-from, pairIn, pairs-more, fields-split, valid-tell}
 

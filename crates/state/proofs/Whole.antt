@@ -15,10 +15,10 @@ use Rattle.base.specs.Test.{pick}
 use Rattle.base.proofs.Tests.{between-yes, holds-below}
 use Rattle.state.specs.declared.Record.{Record}
 use Rattle.state.specs.Parameter.{parameterCount, rangeAt}
-use Rattle.state.specs.Field.{Field, address, value, level, get, put, fieldRange, position, scalarFields, listed, recordFrom, on}
+use Rattle.state.specs.Field.{Field, address, value, level, get, put, fieldRange, position, scalarFields, listed, recordFrom, on, Held}
 use Rattle.state.specs.Valid.{within, valid}
 use Rattle.state.specs.Event.{flagAfter, replaced}
-use Rattle.state.proofs.Fields.{Held, by-fields, by-list, at-field, settled, settling, phase-back, flag-back, get-put-other}
+use Rattle.state.proofs.Fields.{by-fields, by-list, at-field, settled, settling, phase-back, flag-back, get-put-other}
 use Rattle.state.proofs.Validity.{valid-tell}
 use Rattle.state.proofs.Kept.{field-in, fields-in, get-put-own, put-kept}
 

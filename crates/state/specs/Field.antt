@@ -1,8 +1,8 @@
 -- Document 01, "The controller's record", and 02, L1: the fields by name, each read and written as a number.
-use Prim.Native.Nat.{ℕ, zero, suc, _+_, _-_, _*_, _/_, _%_}
+use Prim.Native.Nat.{ℕ, zero, suc, _+_, _-_, _*_, _/_, _%_, _<_}
 use mathlib.Core.Bool.{Bool, true, false, _&&_}
 use mathlib.Core.List.{List, [], _∷_, _++_}
-use lib.Dec.{eqb, leb}
+use lib.Dec.{eqb, leb, ltb}
 use lib.ListN.{length, getD, set}
 use Rattle.state.specs.declared.Phase.{Phase}
 use Rattle.state.specs.declared.Phase.the-variants.{Idle, Set, Running, Stopped, Done}
@@ -105,6 +105,19 @@ position number = 11
 position alarms = 12
 position (value i) = scalarCount + 2 * i
 position (level i) = scalarCount + 1 + 2 * i
+
+-- the field at a position
+unfoldable pub fieldAt : ℕ → Field
+fieldAt n =
+    pick (ltb n scalarCount) (getD scalarFields n address)
+    (pick (eqb ((n - scalarCount) % 2) 0) (value ((n - scalarCount) / 2)) (level ((n - scalarCount) / 2)))
+
+-- how many fields a record has; those of a parameter beyond the last are not among them
+abbrev pub fieldCount : ℕ
+fieldCount = position (value parameterCount)
+
+abbrev pub Held : Field → Type 0
+Held f = position f < fieldCount
 
 -- the fields of the first n parameters
 abbrev pub parameterFields : ℕ → List Field

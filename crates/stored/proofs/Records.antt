@@ -12,9 +12,9 @@ use borrow.Author.Tests.{eq-eqb, ne-eqb, eqb-true, eqb-false, ltb-true, lt-ltb, 
 use Rattle.base.proofs.Tests.{and-yes, and-left, and-right, neither, between-yes, between-high, holds-below}
 use Rattle.state.specs.declared.Record.{Record}
 use Rattle.state.specs.Parameter.{parameterCount}
-use Rattle.state.specs.Field.{Field, alarms, value, position, get, put, fieldRange, off, on}
+use Rattle.state.specs.Field.{Field, alarms, value, position, get, put, fieldRange, off, on, Held}
 use Rattle.state.specs.Valid.{within, valid}
-use Rattle.state.proofs.Fields.{Held, at-field, get-put-other}
+use Rattle.state.proofs.Fields.{at-field, get-put-other}
 use Rattle.state.proofs.Kept.{field-in, get-put-own, put-kept}
 use Rattle.state.proofs.Whole.{same-fields, from-valid, low-within}
 use Rattle.stored.specs.Layout.{Item, alone, together, bitMapped, current, items, alarmsStored, alarmsIn, fits, bits, itemNumber, numbersOf, putBits, putItem, putAll}

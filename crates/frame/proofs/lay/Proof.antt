@@ -6,7 +6,7 @@ use Prim.Native.Nat.{_≤_, _-_}
 use native.Mathlib.Omega.{arith}
 use borrow.Author.Needs.{needs}
 use lib.ListN.{length, take, drop, length-set}
-use Rattle.frame.proofs.Steps.{copy-again, copy-done}
+use Rattle.base.proofs.Lists.{copy-again, copy-done}
 use Rattle.frame.proofs.lay.Statement.{statement}
 use Rattle.frame.proofs.lay.Tie as tie
 

@@ -1,4 +1,4 @@
--- `learning::accept` meets its contract: what its text refuses is never accepted, a read only shows, a write goes through three steps. Assumes nothing.
+-- `learning::accept` meets its contract: what its text refuses is never accepted, a read shows, a write passes and shows. Assumes nothing.
 use Rattle.learning.proofs.Accepting.{accepting}
 use borrow.Author.Needs.{needs}
 use Rattle.learning.proofs.accept.Statement.{statement}
@@ -13,7 +13,6 @@ accept-spec =
     (λ c. search needs)
     (λ c κs. search needs)
     (λ c. search needs)
-    (λ c κs. search needs)
     (λ c κs. search needs)
     (λ c κs. search needs)
     (λ c κs. search needs)

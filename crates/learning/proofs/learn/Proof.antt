@@ -1,4 +1,4 @@
--- `learning::learn` meets its contract: the reply is a refusal or not. Assumes nothing.
+-- `learning::learn` meets its contract: the reply is a refusal, or not and then the record changes or is told as it was. Assumes nothing.
 use Rattle.learning.proofs.Accepting.{learning}
 use borrow.Author.Needs.{needs}
 use Rattle.learning.proofs.learn.Statement.{statement}
@@ -13,5 +13,7 @@ learn-spec =
     (λ c κs. search needs)
     (λ c. search needs)
     (λ c κs. search needs)
+    (λ c κs. search needs)
+    (λ c. search learning)
     (λ c. search learning)
     (λ c. search learning))

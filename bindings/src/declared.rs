@@ -1,0 +1,345 @@
+//! The functions of `include/khuyapesh.h`, each over slices. The only file with `unsafe`: a slice and a reference to a
+//! number of our own are all that is asked of the pointers there.
+
+#![allow(unsafe_code)]
+
+use crate::{Report, Spans, Why};
+
+extern "C" {
+    fn khuyapesh_call(
+        kind: u8,
+        stored: *mut u8,
+        stored_length: usize,
+        request: *const u8,
+        request_length: usize,
+        reply: *mut u8,
+        reply_length: usize,
+    ) -> u32;
+    fn khuyapesh_several(
+        stored: *mut u8,
+        stored_length: usize,
+        bytes: *const u8,
+        bytes_length: usize,
+        reply: *mut u8,
+        reply_length: usize,
+        taken: *mut usize,
+        answered: *mut usize,
+        written: *mut usize,
+    ) -> u32;
+    fn khuyapesh_board(
+        kind: u8,
+        stored: *mut u8,
+        stored_length: usize,
+        request: *const u8,
+        request_length: usize,
+        reply: *mut u8,
+        reply_length: usize,
+    ) -> u32;
+    fn khuyapesh_drum_begin(
+        address: u8,
+        recipe: u8,
+        factor: u32,
+        preset: u32,
+        state: *mut u8,
+        state_length: usize,
+        request: *mut u8,
+        request_length: usize,
+    ) -> u32;
+    fn khuyapesh_drum_take(
+        state: *mut u8,
+        state_length: usize,
+        reply: *const u8,
+        reply_length: usize,
+        request: *mut u8,
+        request_length: usize,
+    ) -> u32;
+    fn khuyapesh_panel(event: u8, number: u16, stored: *mut u8, stored_length: usize) -> u32;
+    fn khuyapesh_stored(
+        stored: *const u8,
+        stored_length: usize,
+        out: *mut u8,
+        out_length: usize,
+    ) -> u32;
+    fn khuyapesh_build(
+        kind: u8,
+        text: *const u8,
+        text_length: usize,
+        out: *mut u8,
+        out_length: usize,
+    ) -> u32;
+    fn khuyapesh_read(
+        kind: u8,
+        frame: *const u8,
+        frame_length: usize,
+        out: *mut u8,
+        out_length: usize,
+    ) -> u32;
+    fn khuyapesh_judge(
+        recording: *const u8,
+        recording_length: usize,
+        place: *mut usize,
+        count: *mut usize,
+    ) -> u32;
+    fn khuyapesh_known(
+        recording: *const u8,
+        recording_length: usize,
+        exchanges: usize,
+        sets: *mut u32,
+        sets_length: usize,
+        place: *mut usize,
+    ) -> u32;
+    fn khuyapesh_learn(
+        address: u8,
+        access: u8,
+        request: *const u8,
+        request_length: usize,
+        reply: *const u8,
+        reply_length: usize,
+        sets: *mut u32,
+        sets_length: usize,
+    ) -> u32;
+    fn khuyapesh_may_hold(field: usize, set: u32, number: u32) -> u32;
+    fn khuyapesh_why(
+        recording: *const u8,
+        recording_length: usize,
+        place: *mut usize,
+        number: *mut u32,
+        held: *mut u32,
+        needed: *mut u32,
+    ) -> u32;
+    fn khuyapesh_exchange(
+        recording: *const u8,
+        recording_length: usize,
+        at: usize,
+        request: *mut usize,
+        stop: *mut usize,
+        reply: *mut usize,
+        end: *mut usize,
+    ) -> u32;
+}
+
+/// One call of the controller.
+pub fn call(kind: u8, stored: &mut [u8], request: &[u8], reply: &mut [u8]) -> u32 {
+    // SAFETY: pointers and lengths of live slices; those that are written overlap no other.
+    unsafe {
+        khuyapesh_call(
+            kind,
+            stored.as_mut_ptr(),
+            stored.len(),
+            request.as_ptr(),
+            request.len(),
+            reply.as_mut_ptr(),
+            reply.len(),
+        )
+    }
+}
+
+/// All minicomputer frames in the lent bytes: the answer, and what is reported beside it.
+pub fn several(stored: &mut [u8], bytes: &[u8], reply: &mut [u8]) -> (u32, Report) {
+    // No number is one that the library should leave.
+    let mut report = Report {
+        taken: usize::MAX,
+        answered: usize::MAX,
+        written: usize::MAX,
+    };
+    // SAFETY: pointers and lengths of live slices, and pointers to three numbers of our own; what is
+    // written overlaps nothing else.
+    let answer = unsafe {
+        khuyapesh_several(
+            stored.as_mut_ptr(),
+            stored.len(),
+            bytes.as_ptr(),
+            bytes.len(),
+            reply.as_mut_ptr(),
+            reply.len(),
+            &mut report.taken,
+            &mut report.answered,
+            &mut report.written,
+        )
+    };
+    (answer, report)
+}
+
+/// One call of a board, its records end to end in their stored form.
+pub fn board(kind: u8, stored: &mut [u8], request: &[u8], reply: &mut [u8]) -> u32 {
+    // SAFETY: pointers and lengths of live slices; those that are written overlap no other.
+    unsafe {
+        khuyapesh_board(
+            kind,
+            stored.as_mut_ptr(),
+            stored.len(),
+            request.as_ptr(),
+            request.len(),
+            reply.as_mut_ptr(),
+            reply.len(),
+        )
+    }
+}
+
+/// Begins a drum change.
+pub fn drum_begin(
+    address: u8,
+    recipe: u8,
+    factor: u32,
+    preset: u32,
+    state: &mut [u8],
+    request: &mut [u8],
+) -> u32 {
+    // SAFETY: pointers and lengths of live slices that do not overlap.
+    unsafe {
+        khuyapesh_drum_begin(
+            address,
+            recipe,
+            factor,
+            preset,
+            state.as_mut_ptr(),
+            state.len(),
+            request.as_mut_ptr(),
+            request.len(),
+        )
+    }
+}
+
+/// Takes the reply to the request of a drum change that was handed out last.
+pub fn drum_take(state: &mut [u8], reply: &[u8], request: &mut [u8]) -> u32 {
+    // SAFETY: pointers and lengths of live slices; those that are written overlap no other.
+    unsafe {
+        khuyapesh_drum_take(
+            state.as_mut_ptr(),
+            state.len(),
+            reply.as_ptr(),
+            reply.len(),
+            request.as_mut_ptr(),
+            request.len(),
+        )
+    }
+}
+
+/// One panel event.
+pub fn panel(event: u8, number: u16, stored: &mut [u8]) -> u32 {
+    // SAFETY: pointer and length of a live slice.
+    unsafe { khuyapesh_panel(event, number, stored.as_mut_ptr(), stored.len()) }
+}
+
+/// Reads a stored record and writes what was read.
+pub fn stored(stored: &[u8], out: &mut [u8]) -> u32 {
+    // SAFETY: pointers and lengths of live slices that do not overlap.
+    unsafe { khuyapesh_stored(stored.as_ptr(), stored.len(), out.as_mut_ptr(), out.len()) }
+}
+
+/// Builds the frame of a text.
+pub fn build(kind: u8, text: &[u8], out: &mut [u8]) -> u32 {
+    // SAFETY: pointers and lengths of live slices that do not overlap.
+    unsafe { khuyapesh_build(kind, text.as_ptr(), text.len(), out.as_mut_ptr(), out.len()) }
+}
+
+/// Copies a frame's text.
+pub fn read(kind: u8, frame: &[u8], out: &mut [u8]) -> u32 {
+    // SAFETY: pointers and lengths of live slices that do not overlap.
+    unsafe {
+        khuyapesh_read(
+            kind,
+            frame.as_ptr(),
+            frame.len(),
+            out.as_mut_ptr(),
+            out.len(),
+        )
+    }
+}
+
+/// Judges a recording: the answer, the place and the count.
+pub fn judge(recording: &[u8]) -> (u32, usize, usize) {
+    // Neither number is one that the library should leave.
+    let (mut place, mut count) = (usize::MAX, usize::MAX);
+    // SAFETY: pointer and length of a live slice, and pointers to two numbers of our own.
+    let answer =
+        unsafe { khuyapesh_judge(recording.as_ptr(), recording.len(), &mut place, &mut count) };
+    (answer, place, count)
+}
+
+/// What a recording tells of the record after its first exchanges: the answer and the place.
+pub fn known(recording: &[u8], exchanges: usize, sets: &mut [u32]) -> (u32, usize) {
+    let mut place = usize::MAX;
+    // SAFETY: pointers and lengths of live slices that do not overlap, and a pointer to a number of our own.
+    let answer = unsafe {
+        khuyapesh_known(
+            recording.as_ptr(),
+            recording.len(),
+            exchanges,
+            sets.as_mut_ptr(),
+            sets.len(),
+            &mut place,
+        )
+    };
+    (answer, place)
+}
+
+/// One exchange more: from the sets before it, those after it.
+pub fn learn(address: u8, access: u8, request: &[u8], reply: &[u8], sets: &mut [u32]) -> u32 {
+    // SAFETY: pointers and lengths of live slices; the one that is written overlaps no other.
+    unsafe {
+        khuyapesh_learn(
+            address,
+            access,
+            request.as_ptr(),
+            request.len(),
+            reply.as_ptr(),
+            reply.len(),
+            sets.as_mut_ptr(),
+            sets.len(),
+        )
+    }
+}
+
+/// Whether the set of a field has a number: 1 or 0.
+pub fn may_hold(field: usize, set: u32, number: u32) -> u32 {
+    // SAFETY: numbers alone.
+    unsafe { khuyapesh_may_hold(field, set, number) }
+}
+
+/// Why a recording is refuted: the answer, and what is told beside it.
+pub fn why(recording: &[u8]) -> (u32, Why) {
+    // No number is one that the library should leave.
+    let mut why = Why {
+        place: usize::MAX,
+        number: u32::MAX,
+        held: u32::MAX,
+        needed: u32::MAX,
+    };
+    // SAFETY: pointer and length of a live slice, and pointers to four numbers of our own.
+    let answer = unsafe {
+        khuyapesh_why(
+            recording.as_ptr(),
+            recording.len(),
+            &mut why.place,
+            &mut why.number,
+            &mut why.held,
+            &mut why.needed,
+        )
+    };
+    (answer, why)
+}
+
+/// The exchange that begins at a byte of a recording: the answer, and where its request and its reply are.
+pub fn exchange(recording: &[u8], at: usize) -> (u32, Spans) {
+    // No number is one that the library should leave.
+    let mut spans = Spans {
+        request: usize::MAX,
+        stop: usize::MAX,
+        reply: usize::MAX,
+        end: usize::MAX,
+    };
+    // SAFETY: pointer and length of a live slice, and pointers to four numbers of our own.
+    let answer = unsafe {
+        khuyapesh_exchange(
+            recording.as_ptr(),
+            recording.len(),
+            at,
+            &mut spans.request,
+            &mut spans.stop,
+            &mut spans.reply,
+            &mut spans.end,
+        )
+    };
+    (answer, spans)
+}

@@ -1,0 +1,4 @@
+pub mod Says
+pub mod Agreement
+pub mod Exact
+pub mod Steps
