@@ -36,8 +36,18 @@ pub const TERMINAL: u8 = 1;
 /// How many fields a record has, each with a number from 0.
 pub const FIELDS: usize = 77;
 
+pub const ADDRESS: usize = 0;
+pub const ACCESS: usize = 1;
 pub const PHASE: usize = 2;
+pub const KEYPAD: usize = 3;
+pub const FLOW: usize = 4;
+pub const CHANGED: usize = 5;
+pub const BATCH_RESET: usize = 6;
+pub const POWER_FAIL: usize = 7;
 pub const RECIPE: usize = 8;
+pub const PRESET: usize = 9;
+pub const RAW: usize = 10;
+pub const BATCH_NUMBER: usize = 11;
 pub const ALARMS: usize = 12;
 pub const PARAMETERS: usize = 32;
 

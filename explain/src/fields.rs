@@ -1,7 +1,7 @@
 //! The fields of a record and what they may hold, in words.
 
 use crate::facts::{Facts, Told};
-use khuyapesh::{may_hold, ALARMS, ANY, FIELDS, PARAMETERS, PHASE, RECIPE};
+use khuyapesh::{may_hold, ALARMS, ANY, FIELDS, KEYPAD, PARAMETERS, PHASE, POWER_FAIL, RECIPE};
 
 /// The fields before the parameters, by number.
 const NAMES: [&str; ALARMS + 1] = [
@@ -19,8 +19,6 @@ const NAMES: [&str; ALARMS + 1] = [
     "batch number",
     "alarms",
 ];
-const FIRST_FLAG: usize = PHASE + 1;
-const LAST_FLAG: usize = RECIPE - 1;
 
 const PHASES: [&str; 5] = ["Idle", "Set", "Running", "Stopped", "Done"];
 const FLAG: [&str; 2] = ["off", "on"];
@@ -79,7 +77,7 @@ pub enum Kind {
 pub fn kind(field: usize) -> Kind {
     match field {
         PHASE => Kind::Phase,
-        FIRST_FLAG..=LAST_FLAG => Kind::Flag,
+        KEYPAD..=POWER_FAIL => Kind::Flag,
         RECIPE => Kind::Recipe,
         ALARMS => Kind::Alarms,
         _ if field < ALARMS => Kind::Number,
