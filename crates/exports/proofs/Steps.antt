@@ -53,7 +53,7 @@ use Rattle.judging.specs.declared.Judgement.{Judgement}
 use Rattle.judging.specs.declared.Judgement.the-variants as judgement
 use Rattle.judging.specs.Judge.{judgementAs}
 use Rattle.exports.specs.declared.Numbers.{Numbers}
-use Rattle.exports.specs.Bytes.{silenceAnswer, storedAnswer, noSuch, hostAnswer, hostLeft, kindOf, eventOf, hasRoom, openAnswer, openRead, openOf, inPlace, callLeft, callBytes, SeveralLeft, severalNumbers, severalAs, nothingTaken, severalLeft, severalBytes, panelBytes, storedBytes, buildBytes, readBytes, judgeNumbers}
+use Rattle.exports.specs.Bytes.{silenceAnswer, storedAnswer, noSuch, hostAnswer, hostLeft, kindOf, eventOf, hasRoom, openAnswer, openRead, openOf, inPlace, callLeft, callBytes, SeveralLeft, severalNumbers, severalAs, nothingTaken, severalLeft, severalBytes, panelBytes, storedBytes, buildBytes, readBytes, judgeNumbers, recordingAnswer}
 
 -- ---- kinds
 pub kind-minicomputer : (n : ℕ) → n ≡ 0 → Minicomputer ≡ kindOf n
@@ -338,9 +338,9 @@ module _ (j : Judgement) (a : statement.Judgement) (e : judgementAs j ≡ a) whe
   unfolding judgeNumbers
   judged-refuted i n h = ap (λ (x : Judgement). judgeNumbers (judgementAs x)) (sym h) ∙ ap judgeNumbers e
 
-  pub judged-refused : (k : recording.Refusal) (m w : ℕ) → j ≡ judgement.Refused k → m ≡ form.refusalNumber k → w ≡ m → (500 + w, (0, 0)) ≡ judgeNumbers a
+  pub judged-refused : (k : recording.Refusal) (n : ℕ) → j ≡ judgement.Refused k → n ≡ recordingAnswer (form.refusalNumber k) → (n, (0, 0)) ≡ judgeNumbers a
   unfolding judgeNumbers
-  judged-refused k m w h f g =
-      ap (λ (x : ℕ). (500 + x, (0, 0))) (g ∙ f) ∙ ap (λ (x : Judgement). judgeNumbers (judgementAs x)) (sym h) ∙ ap judgeNumbers e
+  judged-refused k n h f =
+      ap (λ (x : ℕ). (x, (0, 0))) f ∙ ap (λ (x : Judgement). judgeNumbers (judgementAs x)) (sym h) ∙ ap judgeNumbers e
 
 pub ruleset judging = (judged-fits, judged-refuted, judged-refused)

@@ -1,12 +1,12 @@
 -- What a recording tells: one law for each return of the functions that say it; then, for readers, that the numbers which come back tell
 -- the answer, and that it is right. Assumes nothing.
-use Prim.Native.Nat.{ℕ, _+_, _-_, _^_, _≤_, _<_}
+use Prim.Native.Nat.{ℕ, _+_, _-_, _≤_, _<_}
 use mathlib.Core.Bool.{Bool, true, false, not}
 use mathlib.Core.Path.{_≡_, refl, sym, ap, subst, _∙_}
 use mathlib.Core.List.{List}
 use mathlib.Core.Logic.{_⊎_, inl, inr, ⊎-elim}
 use native.Mathlib.Omega.{arith}
-use lib.Dec.{eqb, leb, ltb}
+use lib.Dec.{eqb, leb}
 use lib.ListN.{length, take}
 use borrow.Author.Tests.{le-leb, lt-leb, not-true, not-false}
 use Rattle.base.specs.Test.{pick, unless}
@@ -17,28 +17,26 @@ use Rattle.recording.specs.declared.Refusal.{Refusal}
 use Rattle.recording.specs.declared.Next.{Next}
 use Rattle.recording.specs.declared.Next.the-variants as next
 use Rattle.recording.specs.declared.Spans.{Spans}
-use Rattle.recording.specs.Form.{Recording, J, recorded, recordingOf, refusalNumber}
+use Rattle.recording.specs.Form.{refusalNumber}
 use Rattle.recording.specs.Known as known
 use Rattle.recording.specs.Known.{RightlyTold, RightlyReasoned}
-use Rattle.recording.specs.Progress.{passed}
 use Rattle.knowledge.specs.declared.Knowledge.{Knowledge}
 use Rattle.knowledge.specs.Sets.{has}
-use Rattle.knowledge.specs.Knowledge.{setsOf, mayHold, start, roomFor, lentIn, laidIn}
+use Rattle.knowledge.specs.Knowledge.{setsOf, mayHold, roomFor, lentIn, laidIn}
 use Rattle.hearing.specs.Hearing.{exchange, exchangeLearnt, exchangeTaught}
 use Rattle.hearing.proofs.Exact.{taught-after}
 use Rattle.reason.specs.declared.Reason.{Reason}
 use Rattle.reason.specs.declared.Reason.the-variants as reason
-use Rattle.reason.proofs.Steps.{found-within}
 use Rattle.judging.specs.declared.Told.{Told}
 use Rattle.judging.specs.declared.Told.the-variants as told
 use Rattle.judging.specs.declared.Findings.{Findings}
 use Rattle.judging.specs.declared.Cause.{Cause}
 use Rattle.judging.specs.declared.Cause.the-variants as cause
-use Rattle.judging.specs.Judge.{living, Telling, unread, broken, sets, tellingAs, knownOf, knownAs, toldBy, Caused, unexplained, fitting, because, causedAs, whyFor, whyOf, reasonedBy}
+use Rattle.judging.specs.Judge.{Telling, unread, broken, sets, tellingAs, knownOf, knownAs, toldBy, Caused, unexplained, fitting, because, causedAs, whyOf, reasonedBy}
 use Rattle.judging.proofs.Theorem.{known-right, known-length, why-right}
 use Rattle.exports.specs.declared.WhyNumbers.{WhyNumbers}
 use Rattle.exports.specs.declared.Found.{Found}
-use Rattle.exports.specs.Bytes.{knownLeft, knownNumbers, learntLeft, learnNumbers, mayHoldNumber, reasonNumbers, whyAs, Numbered, NumberedBy, whyNumbers, exchangeNumbers, foundAs}
+use Rattle.exports.specs.Bytes.{recordingAnswer, knownLeft, knownNumbers, learntLeft, learnNumbers, mayHoldNumber, reasonNumbers, whyAs, whyNumbers, exchangeNumbers, foundAs}
 
 -- ---- codes that are laid where there is room
 laid-over : (cs o d : List ℕ) (b : Bool) → fieldCount ≤ length o → (b, d) ≡ laidIn cs o → d ≡ over cs o
@@ -57,8 +55,8 @@ module _ (bs : List ℕ) (k : ℕ) (o : List ℕ) where
     known-by t z =
         ap (λ (y : Told). knownLeft (tellingAs y, x .codes) o) (sym z) ∙ (ap (λ (y : Telling × List ℕ). knownLeft y o) e ∙ simp (le-leb _ _ room))
 
-    pub known-refused : (j : Refusal) (m n : ℕ) → x .told ≡ told.Refused j → m ≡ refusalNumber j → n ≡ m → (500 + n, (0, o)) ≡ knownNumbers bs k o
-    known-refused j m n z f g = ap (λ (y : ℕ). (500 + y, (0, o))) (g ∙ f) ∙ known-by (told.Refused j) z
+    pub known-refused : (j : Refusal) (n : ℕ) → x .told ≡ told.Refused j → n ≡ recordingAnswer (refusalNumber j) → (n, (0, o)) ≡ knownNumbers bs k o
+    known-refused j n z f = ap (λ (y : ℕ). (y, (0, o))) f ∙ known-by (told.Refused j) z
 
     pub known-refuted : (i : ℕ) → x .told ≡ told.Refuted i → (1, (i, o)) ≡ knownNumbers bs k o
     known-refuted i z = known-by (told.Refuted i) z
@@ -112,16 +110,12 @@ module _ (x : WhyNumbers) (i : ℕ) (r : Reason) where
 
 pub ruleset reasoning = (reason-answered, reason-unanswered, reason-impossible, reason-field)
 
-pub field-fits : (r : Reason) (f h n : ℕ) → Numbered r → r ≡ reason.Field f h n → f < 2 ^ 32
-field-fits r f h n l z = let m : f ≤ fieldCount = subst Numbered z l in omega arith
-
 -- ---- `cause_numbers`
 module _ (x : WhyNumbers) (w : Cause) where
-  pub cause-refused : (j : Refusal) (m n : ℕ) → w ≡ cause.Refused j → m ≡ refusalNumber j → n ≡ m → x ≡ record { answer = 500 + n; place = 0; number = 0; held = 0; needed = 0 }
+  pub cause-refused : (j : Refusal) (n : ℕ) → w ≡ cause.Refused j → n ≡ recordingAnswer (refusalNumber j) → x ≡ record { answer = n; place = 0; number = 0; held = 0; needed = 0 }
       → whyAs x ≡ whyNumbers (causedAs w)
   unfolding whyNumbers
-  cause-refused j m n z f g e =
-      ap whyAs e ∙ (ap (λ (y : ℕ). (500 + y, (0, (0, (0, 0))))) (g ∙ f) ∙ sym (ap (λ (y : Cause). whyNumbers (causedAs y)) z))
+  cause-refused j n z f e = ap whyAs e ∙ (ap (λ (y : ℕ). (y, (0, (0, (0, 0))))) f ∙ sym (ap (λ (y : Cause). whyNumbers (causedAs y)) z))
 
   pub cause-fits : (n : ℕ) → w ≡ cause.Fits n → x ≡ record { answer = 0; place = 0; number = 0; held = 0; needed = 0 } → whyAs x ≡ whyNumbers (causedAs w)
   unfolding whyNumbers
@@ -133,33 +127,9 @@ module _ (x : WhyNumbers) (w : Cause) where
 
 pub ruleset causing = (cause-refused, cause-fits, cause-refuted)
 
-pub cause-numbered : (w : Cause) (i n : ℕ) (r : Reason) → NumberedBy (causedAs w) → w ≡ cause.Refuted i n r → Numbered r
-cause-numbered w i n r l z = subst (λ (y : Cause). NumberedBy (causedAs y)) z l
-
--- ---- `khuyapesh_why`: the field that is found has a number
-numbered : (r : Reason) → ((f h n : ℕ) → r ≡ reason.Field f h n → f ≤ fieldCount) → Numbered r
-numbered (reason.Answered n) l = tt
-numbered reason.Unanswered l = tt
-numbered reason.Impossible l = tt
-numbered (reason.Field f h n) l = l f h n refl
-
-numbered-by : (b : Bool) (i n : ℕ) (r : Reason) → Numbered r → NumberedBy (pick b (because i n r) (fitting n))
-numbered-by true i n r l = l
-numbered-by false i n r l = tt
-
-numbered-for : (x : Recording) → NumberedBy (whyFor x)
-numbered-for (J n) = tt
-numbered-for (recorded a c es) =
-    let p : ℕ = passed (exchangeLearnt a c) living (start a c) es in
-    numbered-by (ltb p (length es)) _ _ _ (numbered _ (found-within a c _ _))
-
-module _ (bs : List ℕ) (w : Cause) (e : causedAs w ≡ whyOf bs) where
-  pub why-numbered : NumberedBy (causedAs w)
-  unfolding whyOf
-  why-numbered = subst NumberedBy (sym e) (numbered-for (recordingOf bs))
-
-  pub why-told : (x : WhyNumbers) → whyAs x ≡ whyNumbers (causedAs w) → whyAs x ≡ whyNumbers (whyOf bs)
-  why-told x f = f ∙ ap whyNumbers e
+-- ---- `khuyapesh_why`
+pub why-told : (bs : List ℕ) (w : Cause) (x : WhyNumbers) → causedAs w ≡ whyOf bs → whyAs x ≡ whyNumbers (causedAs w) → whyAs x ≡ whyNumbers (whyOf bs)
+why-told bs w x e f = f ∙ ap whyNumbers e
 
 -- ---- `exchange_found` and `khuyapesh_exchange`
 module _ (n : Next) where

@@ -12,7 +12,7 @@ use Rattle.state.specs.declared.Record.{Record}
 use Rattle.state.specs.declared.Event.{Event}
 use Rattle.state.specs.declared.Event.the-variants.{Pulses, Still, KeypadOn, KeypadOff, PowerBack, AlarmOn, AlarmOff}
 use Rattle.state.specs.Event.{after}
-use Rattle.state.specs.Field.{fieldCount, flagNumber}
+use Rattle.state.specs.Field.{flagNumber}
 use Rattle.stored.specs.Layout.{current}
 use Rattle.stored.specs.Form as stored
 use Rattle.stored.specs.Form.{K, done, storedLength, storedForm}
@@ -63,6 +63,10 @@ hostAnswer (H n) = 400 + n
 hostAnswer (S n) = silenceAnswer n
 hostAnswer (accepted n) = n
 hostAnswer (unit a n) = n
+
+-- "500 + n   recording refused, Jn"
+abbrev pub recordingAnswer : ℕ → ℕ
+recordingAnswer n = 500 + n
 
 -- "KHUYAPESH_MINICOMPUTER 0", "KHUYAPESH_TERMINAL 1"
 abbrev pub isKind : ℕ → Bool
@@ -217,11 +221,11 @@ drumLeft x = (drumAnswer (x .told), (x .state, x .buffer))
 unfoldable pub judgeNumbers : Judgement → ℕ × (ℕ × ℕ)
 judgeNumbers (judged (fits n)) = (0, (0, n))
 judgeNumbers (judged (refuted i n)) = (1, (i, n))
-judgeNumbers (refused n) = (500 + n, (0, 0))
+judgeNumbers (refused n) = (recordingAnswer n, (0, 0))
 
 -- ---- khuyapesh_known: the answer, the place and the sets
 abbrev pub knownLeft : Telling × List ℕ → List ℕ → ℕ × (ℕ × List ℕ)
-knownLeft (unread n, cs) o = (500 + n, (0, o))
+knownLeft (unread n, cs) o = (recordingAnswer n, (0, o))
 knownLeft (broken i, cs) o = (1, (i, o))
 knownLeft (sets, cs) o = (0, (0, over cs o))
 
@@ -247,30 +251,19 @@ reasonNumbers i reason.Unanswered = (2, (i, (0, (0, 0))))
 reasonNumbers i reason.Impossible = (3, (i, (0, (0, 0))))
 reasonNumbers i (reason.Field f held needed) = (4, (i, (f, (held, needed))))
 
--- the code's numbers as these, and that a number has room for a field's
+-- the code's numbers as these
 abbrev pub whyAs : WhyNumbers → ℕ × (ℕ × (ℕ × (ℕ × ℕ)))
 whyAs x = (x .answer, (x .place, (x .number, (x .held, x .needed))))
 
-abbrev pub Numbered : Reason → Type 0
-Numbered (reason.Answered n) = Unit {0}
-Numbered reason.Unanswered = Unit {0}
-Numbered reason.Impossible = Unit {0}
-Numbered (reason.Field f held needed) = f ≤ fieldCount
-
-abbrev pub NumberedBy : Caused → Type 0
-NumberedBy (unexplained n) = Unit {0}
-NumberedBy (fitting n) = Unit {0}
-NumberedBy (because i n why) = Numbered why
-
 unfoldable pub whyNumbers : Caused → ℕ × (ℕ × (ℕ × (ℕ × ℕ)))
-whyNumbers (unexplained n) = (500 + n, (0, (0, (0, 0))))
+whyNumbers (unexplained n) = (recordingAnswer n, (0, (0, (0, 0))))
 whyNumbers (fitting n) = (0, (0, (0, (0, 0))))
 whyNumbers (because i n why) = reasonNumbers i why
 
 -- ---- khuyapesh_exchange: the answer, and where the request and the reply are
 unfoldable pub exchangeNumbers : Next → ℕ × (ℕ × (ℕ × (ℕ × ℕ)))
 exchangeNumbers next.End = (1, (0, (0, (0, 0))))
-exchangeNumbers next.Cut = (505, (0, (0, (0, 0))))
+exchangeNumbers next.Cut = (recordingAnswer 5, (0, (0, (0, 0))))
 exchangeNumbers (next.Exchange p) = (0, (p .request, (p .stop, (p .reply, p .end))))
 
 abbrev pub foundAs : Found → ℕ × (ℕ × (ℕ × (ℕ × ℕ)))

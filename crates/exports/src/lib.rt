@@ -27,9 +27,10 @@ ghost use Rattle.several.specs.Several.{severalOf};
 ghost use Rattle.drum.specs.Numbers.{toldAs};
 ghost use Rattle.drum.specs.Turns.{sizeTold};
 ghost use Rattle.drumstate.specs.State.{beginOf, takeOf};
+ghost use Rattle.recording.specs.Form as form;
 ghost use Rattle.recording.specs.Form.{exchangeAt};
 ghost use Rattle.judging.specs.Judge.{judgementOf, causedAs, whyOf};
-ghost use Rattle.exports.specs.Bytes.{silenceAnswer, storedAnswer, hostAnswer, kindOf, eventOf, openAnswer, openOf, callLeft, callBytes, severalNumbers, severalAs, severalLeft, severalBytes, heardAnswer, boardAnswer, answerLeft, Tellable, boardBytes, panelBytes, storedBytes, buildBytes, readBytes, drumAnswer, drumLeft, judgeNumbers, knownNumbers, learnNumbers, mayHoldNumber, Numbered, NumberedBy, whyAs, reasonNumbers, whyNumbers, foundAs, exchangeNumbers};
+ghost use Rattle.exports.specs.Bytes.{silenceAnswer, storedAnswer, recordingAnswer, hostAnswer, kindOf, eventOf, openAnswer, openOf, callLeft, callBytes, severalNumbers, severalAs, severalLeft, severalBytes, heardAnswer, boardAnswer, answerLeft, Tellable, boardBytes, panelBytes, storedBytes, buildBytes, readBytes, drumAnswer, drumLeft, judgeNumbers, knownNumbers, learnNumbers, mayHoldNumber, whyAs, reasonNumbers, whyNumbers, foundAs, exchangeNumbers};
 
 // ---- the numbers that are answered
 
@@ -77,6 +78,12 @@ fn refusal_answer(why: Refusal) -> u32
     ensures { λ n. ⌜ n ≡ storedAnswer (K (refusalNumber why)) ⌝ }
 {
     STORED + base::wide(stored::number_of(why))
+}
+
+fn recording_answer(why: recording::Refusal) -> u32
+    ensures { λ n. ⌜ n ≡ recordingAnswer (form.refusalNumber why) ⌝ }
+{
+    RECORDING + base::wide(recording::number_of(why))
 }
 
 fn stored_answer(read: stored::Answer) -> u32
@@ -434,7 +441,7 @@ pub extern "C" fn khuyapesh_judge(recording: &[u8], place: &mut usize, count: &m
         Judgement::Refused(refusal) => {
             *place = 0;
             *count = 0;
-            RECORDING + base::wide(recording::number_of(refusal))
+            recording_answer(refusal)
         }
     }
 }
@@ -459,7 +466,7 @@ pub extern "C" fn khuyapesh_known(
     let told = known.told;
     let codes = known.codes;
     match told {
-        Told::Refused(refusal) => RECORDING + base::wide(recording::number_of(refusal)),
+        Told::Refused(refusal) => recording_answer(refusal),
         Told::Refuted(i) => {
             *place = i;
             1
@@ -527,26 +534,21 @@ fn why_numbers(answer: u32, place: usize, number: u32, held: u32, needed: u32) -
 }
 
 fn reason_numbers(place: usize, why: Reason) -> WhyNumbers
-    requires { ⌜ Numbered why ⌝ }
     ensures { λ x. ⌜ whyAs x ≡ reasonNumbers place why ⌝ }
 {
     match why {
         Reason::Answered(n) => why_numbers(1, place, base::wide(n), 0, 0),
         Reason::Unanswered => why_numbers(2, place, 0, 0, 0),
         Reason::Impossible => why_numbers(3, place, 0, 0, 0),
-        Reason::Field(field, held, needed) => why_numbers(4, place, field as u32, held, needed),
+        Reason::Field(field, held, needed) => why_numbers(4, place, field, held, needed),
     }
 }
 
 fn cause_numbers(cause: Cause) -> WhyNumbers
-    requires { ⌜ NumberedBy (causedAs cause) ⌝ }
     ensures { λ x. ⌜ whyAs x ≡ whyNumbers (causedAs cause) ⌝ }
 {
     match cause {
-        Cause::Refused(refusal) => {
-            let answer = RECORDING + base::wide(recording::number_of(refusal));
-            why_numbers(answer, 0, 0, 0, 0)
-        }
+        Cause::Refused(refusal) => why_numbers(recording_answer(refusal), 0, 0, 0, 0),
         Cause::Fits(_) => why_numbers(0, 0, 0, 0, 0),
         Cause::Refuted(place, _, why) => reason_numbers(place, why),
     }

@@ -25,6 +25,7 @@ use Rattle.base.specs.Test.{between, unless}
 use Rattle.frame.specs.Numbers.{Answer, H, S, accepted, unit, silenceNumber, builtAs, locatedAs, addressedAs}
 use Rattle.frame.specs.Answer.{copied, addressed, buildOf, locateOf, readOf, addressOf}
 use Rattle.base.specs.Lists.{over}
+use Rattle.base.proofs.Tests.{never}
 
 -- ---- silences are counted from 1
 pub silence-low : (w : Silence) → 1 ≤ silenceNumber w
@@ -70,9 +71,6 @@ pub frame-length : (k : Kind) (t : List ℕ) → length (frameOf k t) ≡ length
 unfolding frameOf
 frame-length Minicomputer t = simp length-append (omega arith)
 frame-length Terminal t = simp length-append (omega arith)
-
-never : _≡_ {A = ℕ} 0 1 → ⊥
-never e = omega arith
 
 -- both of two tests hold
 and-true : (a b : Bool) → (a && b) ≡ true → (a ≡ true) × (b ≡ true)

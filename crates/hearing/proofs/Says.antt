@@ -9,6 +9,7 @@ use lib.Dec.{eqb}
 use lib.ListN.{take}
 use borrow.Author.Tests.{eqb-true, eqb-false}
 use Rattle.base.specs.Test.{pick, unless}
+use Rattle.base.proofs.Tests.{never}
 use Rattle.frame.specs.declared.Kind.the-variants.{Minicomputer}
 use Rattle.frame.specs.Numbers.{Answer, H, S, accepted, unit}
 use Rattle.frame.specs.Answer.{locateOf, addressOf}
@@ -20,9 +21,6 @@ use Rattle.recording.specs.Form.{Exchange}
 use Rattle.hearing.specs.declared.Said.{Said}
 use Rattle.hearing.specs.declared.Said.the-variants.{Quiet, Answered, Unanswered, Unreadable, Texts}
 use Rattle.hearing.specs.Hearing.{heard, silenceSaid, frameSaid, replySaid, saidTo, saidOf}
-
-never : {A : Type 0} → _≡_ {A = ℕ} 0 1 → A
-never z = absurd (omega arith)
 
 -- the silence that a request meets at the unit with the address a, by what its reader tells; 0 for a reply
 abbrev pub dueBy : ℕ → Answer → ℕ
@@ -67,7 +65,7 @@ module _ (a : ℕ) (e : Exchange) where
     where
       go : (xs : List ℕ) → e .reply ≡ xs → Says (pick (isEmpty xs) Quiet (Answered n))
       go [] q = (other, q)
-      go (x ∷ xs) q = (other, λ z. let y : x ∷ xs ≡ [] = sym q ∙ z in never (cc), l, due)
+      go (x ∷ xs) q = (other, λ z. let y : x ∷ xs ≡ [] = sym q ∙ z in absurd (never (cc)), l, due)
 
   -- ---- a reply was due
   module _ (n : ℕ) (names : reader ≡ unit a n) (some : e .reply ≡ [] → ⊥) where
@@ -82,9 +80,9 @@ module _ (a : ℕ) (e : Exchange) where
 
     by-frame : (y : Answer) → locateOf Minicomputer (e .reply) ≡ y → Says (frameSaid a n y (heard e))
     by-frame (accepted m) q = by-digits m q (equal (take 2 (heard e)) (digits 2 a)) refl
-    by-frame (H m) q = no-frame (H m) q (λ i z. never (cc))
-    by-frame (S m) q = no-frame (S m) q (λ i z. never (cc))
-    by-frame (unit b m) q = no-frame (unit b m) q (λ i z. never (cc))
+    by-frame (H m) q = no-frame (H m) q (λ i z. absurd (never (cc)))
+    by-frame (S m) q = no-frame (S m) q (λ i z. absurd (never (cc)))
+    by-frame (unit b m) q = no-frame (unit b m) q (λ i z. absurd (never (cc)))
 
   by-reply : (n : ℕ) → reader ≡ unit a n → Says (replySaid a n (e .reply))
   unfolding replySaid
@@ -92,7 +90,7 @@ module _ (a : ℕ) (e : Exchange) where
     where
       go : (xs : List ℕ) → e .reply ≡ xs → Says (pick (isEmpty xs) Unanswered (frameSaid a n (locateOf Minicomputer (e .reply)) (heard e)))
       go [] q = ((n, names), q)
-      go (x ∷ xs) q = by-frame n names (λ z. let y : x ∷ xs ≡ [] = sym q ∙ z in never (cc)) (locateOf Minicomputer (e .reply)) refl
+      go (x ∷ xs) q = by-frame n names (λ z. let y : x ∷ xs ≡ [] = sym q ∙ z in absurd (never (cc))) (locateOf Minicomputer (e .reply)) refl
 
   -- ---- either
   by-unit : (b n : ℕ) → reader ≡ unit b n → (t : Bool) → eqb b a ≡ t → Says (unless t (silenceSaid 8 (e .reply)) (replySaid a n (e .reply)))
@@ -102,7 +100,7 @@ module _ (a : ℕ) (e : Exchange) where
       (ap (dueBy a) q ∙ ap (λ (t : Bool). unless t 8 0) i)
 
   by-reader : (y : Answer) → reader ≡ y → Tells y → Says (saidTo a y (e .reply))
-  by-reader (S n) q l = by-silence n (λ (m, h). let z : S n ≡ unit a m = sym q ∙ h in never (cc)) (omega arith) (ap (dueBy a) q)
+  by-reader (S n) q l = by-silence n (λ (m, h). let z : S n ≡ unit a m = sym q ∙ h in absurd (never (cc))) (omega arith) (ap (dueBy a) q)
   by-reader (unit b n) q l = by-unit b n q (eqb b a) refl
   by-reader (H n) q l = absurd l
   by-reader (accepted n) q l = absurd l

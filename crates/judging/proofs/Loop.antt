@@ -9,7 +9,7 @@ use lib.ListN.{length, getD, take, drop, length-take}
 use lib.Seq.{take-length, take-nil, drop-cons, drop-drop}
 use borrow.Author.Tests.{le-ltb, lt-ltb, not-true, not-false}
 use Rattle.base.specs.Test.{pick, unless, between}
-use Rattle.base.proofs.Tests.{between-low}
+use Rattle.base.proofs.Tests.{never, between-low}
 use Rattle.state.specs.Field.{address, access, fieldRange}
 use Rattle.state.specs.Valid as valid
 use Rattle.knowledge.specs.declared.Knowledge.{Knowledge}
@@ -32,9 +32,6 @@ use Rattle.reason.specs.declared.Reason.{Reason}
 use Rattle.reason.specs.Reason.{reasonOf}
 use Rattle.judging.specs.declared.Progress.{Progress}
 use Rattle.judging.specs.Judge.{living, judgementFor, judgementOf, Telling, unread, broken, sets, noSets, knownBy, knownFor, knownOf, unexplained, fitting, because, whyBy, whyFor, whyOf, Followed, WellFormed, Breaks}
-
-never : {A : Type 0} → _≡_ {A = ℕ} 0 1 → A
-never e = absurd (omega arith)
 
 -- ---- what passes and what is learnt, step by step
 module _ (a c : ℕ) where
@@ -72,14 +69,14 @@ module _ (a c : ℕ) (es : List Exchange) where
   tested : (b₁ b₂ b₃ b₄ : Bool) (x : Recording) → unless b₁ (J 1) (unless b₂ (J 2) (unless b₃ (J 3) (unless b₄ (J 4) x))) ≡ recorded a c es
       → (b₁ ≡ true) × (x ≡ recorded a c es)
   tested true true true true x e = (refl, e)
-  tested true true true false x e = never (cc)
-  tested true true false b₄ x e = never (cc)
-  tested true false b₃ b₄ x e = never (cc)
-  tested false b₂ b₃ b₄ x e = never (cc)
+  tested true true true false x e = absurd (never (cc))
+  tested true true false b₄ x e = absurd (never (cc))
+  tested true false b₃ b₄ x e = absurd (never (cc))
+  tested false b₂ b₃ b₄ x e = absurd (never (cc))
 
   headed : (b d : ℕ) (x : Exchanges) → withHeader b d x ≡ recorded a c es → x ≡ whole es
   headed b d (whole fs) e = let i : fs ≡ es = cc in ap whole i
-  headed b d cut e = never (cc)
+  headed b d cut e = absurd (never (cc))
 
   module _ (s : List ℕ) (e : recordingOf s ≡ recorded a c es) where
     found : (between 5 65535 (length s) ≡ true) × (withHeader (getD s 3 0) (getD s 4 0) (exchangesIn (length s) (drop headerWidth s)) ≡ recorded a c es)
@@ -135,7 +132,7 @@ going-none s a c m k (es, e) w =
 -- what a list of exchanges that starts with one is
 begun : (e : Exchange) (x : Exchanges) (es : List Exchange) → whole es ≡ before e x → (rest : List Exchange) × (x ≡ whole rest) × (es ≡ e ∷ rest)
 begun e (whole rest) es h = (rest, refl, (cc))
-begun e cut es h = never (cc)
+begun e cut es h = absurd (never (cc))
 
 -- where an exchange has its request and its reply
 module _ (s : List ℕ) (at : ℕ) (x : Next) (w : x ≡ exchangeAt s at) (p : Spans) (e : x ≡ next.Exchange p) where
@@ -190,7 +187,7 @@ module _ (s : List ℕ) (a c m : ℕ) (k : Knowledge) (at i : ℕ) (g : Going s 
 
     -- a recording that is well-formed has no cut exchange
     pub followed-cut : x ≡ next.Cut → Followed s a c m o
-    followed-cut e = let h : whole (g .rest) ≡ cut = by-next next.Cut e in never (cc)
+    followed-cut e = let h : whole (g .rest) ≡ cut = by-next next.Cut e in absurd (never (cc))
 
     module _ (p : Spans) (e : x ≡ next.Exchange p) where
       pub one-fits : i < length s
@@ -262,7 +259,7 @@ module _ (s : List ℕ) (x : Read) (e : readAs x ≡ summary (recordingOf s)) wh
       where
         go : (y : Recording) → summary y ≡ J-number (refusalNumber k) → y ≡ J (refusalNumber k)
         go (J m) h = let i : m ≡ refusalNumber k = cc in ap J i
-        go (recorded a c es) h = never (cc)
+        go (recorded a c es) h = absurd (never (cc))
 
     pub judged-refused : refused (refusalNumber k) ≡ judgementOf s
     unfolding judgementOf
@@ -281,7 +278,7 @@ module _ (s : List ℕ) (x : Read) (e : readAs x ≡ summary (recordingOf s)) wh
     read-so = go (recordingOf s) (sym e ∙ ap readAs z)
       where
         go : (y : Recording) → summary y ≡ counted a c n → (es : List Exchange) × (y ≡ recorded a c es) × (length es ≡ n)
-        go (J m) h = never (cc)
+        go (J m) h = absurd (never (cc))
         go (recorded b d es) h =
             let p : b ≡ a = cc in
             let q : d ≡ c = cc in
@@ -390,10 +387,10 @@ module _ (s : List ℕ) (a c n p : ℕ) (b : Breaks s a c n p) (o : Progress) (f
         ∙ (unroll s (o .at) ∙ ap (unrolled s) (sym w ∙ e))
 
     pub no-end : x ≡ next.End → fitting n ≡ whyOf s
-    no-end e = let h : whole (getD es p (exchange [] []) ∷ drop (suc p) es) ≡ whole [] = by-place next.End e in never (cc)
+    no-end e = let h : whole (getD es p (exchange [] []) ∷ drop (suc p) es) ≡ whole [] = by-place next.End e in absurd (never (cc))
 
     pub no-cut : x ≡ next.Cut → fitting n ≡ whyOf s
-    no-cut e = let h : whole (getD es p (exchange [] []) ∷ drop (suc p) es) ≡ cut = by-place next.Cut e in never (cc)
+    no-cut e = let h : whole (getD es p (exchange [] []) ∷ drop (suc p) es) ≡ cut = by-place next.Cut e in absurd (never (cc))
 
     pub why-refuted : (q : Spans) (r : Reason) → x ≡ next.Exchange q → r ≡ reasonOf a c (o .known) (spanned s q) → because (p + 1) n r ≡ whyOf s
     unfolding whyOf

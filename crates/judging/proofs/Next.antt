@@ -11,6 +11,7 @@ use lib.ListN.{length, getD, take, length-append}
 use lib.Seq.{length-take-le, take-suc}
 use borrow.Author.Tests.{le-ltb, lt-ltb, ltb-false}
 use Rattle.base.specs.Test.{pick}
+use Rattle.base.proofs.Tests.{never}
 use Rattle.knowledge.specs.declared.Knowledge.{Knowledge}
 use Rattle.knowledge.specs.Knowledge.{start}
 use Rattle.recording.specs.Form.{Exchange, recorded, recordingOf}
@@ -23,16 +24,13 @@ use Rattle.judging.specs.Judge.{living, Telling, broken, sets, noSets, k
 abbrev pub nextTold : ℕ → Knowledge → Telling × List ℕ
 nextTold k x = pick (x .alive) (sets, x .codes) (broken (k + 1), noSets)
 
-never : {A : Type 0} → _≡_ {A = ℕ} 0 1 → A
-never e = absurd (omega arith)
-
 module _ (a c : ℕ) where
   -- all pass where the sets are told
   all-passed : (p n : ℕ) (x : Knowledge) (cs : List ℕ) → knownBy p n x ≡ (sets, cs) → (n ≤ p) × (x .codes ≡ cs)
   all-passed p n x cs = go (ltb p n) refl
     where
       go : (b : Bool) → ltb p n ≡ b → _≡_ {A = Telling × List ℕ} (pick b (broken (p + 1), noSets) (sets, x .codes)) (sets, cs) → (n ≤ p) × (x .codes ≡ cs)
-      go true q h = let z : broken (p + 1) ≡ sets = ap (λ (y : Telling × List ℕ). y .0) h in never (cc)
+      go true q h = let z : broken (p + 1) ≡ sets = ap (λ (y : Telling × List ℕ). y .0) h in absurd (never (cc))
       go false q h = (ltb-false p n q, ap (λ (y : Telling × List ℕ). y .1) h)
 
   module _ (fs : List Exchange) (e : Exchange) (cs : List ℕ) where

@@ -9,7 +9,7 @@ use native.Mathlib.Omega.{arith}
 use native.Mathlib.Numerals.{add-one}
 use lib.Dec.{eqb, ltb}
 use lib.ListN.{length, getD, take, drop, length-take}
-use lib.Seq.{length-take-le, take-length, take-suc, take-take}
+use lib.Seq.{length-take-le, take-suc, take-take}
 use borrow.Author.Tests.{ltb-true, ltb-false}
 use Rattle.base.specs.Test.{pick, unless, between}
 use Rattle.base.proofs.Tests.{and-left, and-right}
@@ -24,9 +24,9 @@ use Rattle.knowledge.proofs.Product.{product-exactly}
 use Rattle.recording.specs.Form.{Exchange, Exchanges, whole, cut, Recording, J, recorded, recordingOf, withHeader, exchangesIn, headerWidth}
 use Rattle.recording.specs.Replay.{Answer, fits, refuted, Right}
 use Rattle.recording.specs.Statement.{Agrees, next, Fits, Judgement, judged, RightOf, Demand3}
-use Rattle.recording.specs.Known.{MayHold, InProduct, RefutedAt, ToldOf, RightlyTold, Because, WhyOf, RightlyReasoned}
+use Rattle.recording.specs.Known.{MayHold, InProduct, ToldOf, RightlyTold, Because, WhyOf, RightlyReasoned}
 use Rattle.recording.specs.Progress.{passed, learnt, answerOf}
-use Rattle.recording.proofs.Exact.{passed-those, passed-not, Exactly, From, Last, last, leads, learnt-sound, learnt-alive, right}
+use Rattle.recording.proofs.Exact.{passed-those, passed-not, passed-bound, Exactly, From, leads, learnt-sound, learnt-alive, right}
 use Rattle.recording.proofs.Consequences.{one-judgement}
 use Rattle.hearing.specs.Hearing.{exchange, exchangeLearnt}
 use Rattle.hearing.proofs.Exact.{onward, back, keeps}
@@ -102,28 +102,20 @@ module _ (a c : ℕ) (in-address : within (fieldRange address) a ≡ true) (in-a
     unfolding start
     known-alive e = learnt-alive (exchangeLearnt a c) living es (start a c) refl e
 
-    -- as many as pass fit, and not one more
-    last-fits : Last next Agrees (Kept a c) Possible (exchangeLearnt a c) living exact (start a c) es passedNow
-    unfolding start
-    last-fits = last next Agrees (Kept a c) Possible (exchangeLearnt a c) living exact (start a c) es (start-kept a c in-address in-access) refl
-
-  -- the first of them that does not pass is the first that no record survives
-  pub refuted-at : (es : List Exchange) → passedNow es < length es → RefutedAt a c es (passedNow es + 1)
-  refuted-at es l =
-      let n : ℕ = passedNow es in
-      let e : n + 1 - 1 ≡ n = omega arith in (
-        omega arith,
-        omega arith,
-        subst (λ (i : ℕ). Fits a c (take i es)) (sym e) (started-fits (take n es) (last-fits es .holds)),
-        λ f. last-fits es .fails l (subst (λ (i : ℕ). Started (take i es)) (add-one n) (fits-started (take (n + 1) es) f)),
-      )
+  -- demand 3's answer, by whether fewer pass than there are
+  answered-by : (es : List Exchange) (b : Bool) → ltb (passedNow es) (length es) ≡ b → Right (Fits a c) es (pick b (refuted (passedNow es + 1) (length es)) (fits (length es)))
+  unfolding answerOf
+  answered-by es b e =
+      subst (λ (x : Bool). Right (Fits a c) es (pick x (refuted (passedNow es + 1) (length es)) (fits (length es)))) e (answer-right es)
 
   -- what refutes the first of them refutes all
-  refuted-within : (es : List Exchange) (k i : ℕ) → RefutedAt a c (take k es) i → (i ≤ k) × RefutedAt a c es i
-  refuted-within es k i (l, h, f, n) =
+  refuted-within : (es : List Exchange) (k i : ℕ) → Right (Fits a c) (take k es) (refuted i (length (take k es)))
+      → (i ≤ k) × Right (Fits a c) es (refuted i (length es))
+  refuted-within es k i (same, l, h, f, n) =
       let j : i ≤ k = omega (arith, length-take k es) in (
         j,
         (
+          refl,
           l,
           omega (arith, length-take k es),
           subst (Fits a c) (take-take (i - 1) k es (omega arith)) f,
@@ -136,12 +128,13 @@ module _ (a c : ℕ) (in-address : within (fieldRange address) a ≡ true) (in-a
   ExactSets cs es = Fits a c es × ((r : Record) → InProduct (setsOf record { alive = true; codes = cs }) r ↔ MayHold a c es r)
 
   -- all of them pass
-  sets-right : (es : List Exchange) → length es ≤ passedNow es → ExactSets (knownNow es .codes) es
-  sets-right es l =
-      let all : passedNow es ≡ length es = omega (arith, last-fits es .bound) in
+  sets-right : (es : List Exchange) → ltb (passedNow es) (length es) ≡ false → ExactSets (knownNow es .codes) es
+  sets-right es e =
+      let l = ltb-false (passedNow es) (length es) e in
+      let all : passedNow es ≡ length es = omega (arith, passed-bound (exchangeLearnt a c) living es (start a c)) in
       let same : knownNow es ≡ record { alive = true; codes = knownNow es .codes } =
       ap (λ (b : Bool). record { alive = b; codes = knownNow es .codes }) (known-alive es all) in (
-        started-fits es (subst Started (take-length es) (subst (λ (i : ℕ). Started (take i es)) all (last-fits es .holds))),
+        answered-by es false e .1,
         λ r.
             let x = product-exactly record { alive = true; codes = knownNow es .codes } refl r in
             let y = may-hold es r in (
@@ -157,8 +150,8 @@ module _ (a c : ℕ) (in-address : within (fieldRange address) a ≡ true) (in-a
           → ToldOf (recorded a c es) k (toldBy (pick b (broken (passedNow fs + 1), noSets) (sets, knownNow fs .codes)))
       go fs e true q =
           refuted-within es k (passedNow fs + 1)
-          (subst (λ (gs : List Exchange). RefutedAt a c gs (passedNow fs + 1)) (sym e) (refuted-at fs (ltb-true (passedNow fs) (length fs) q)))
-      go fs e false q = subst (ExactSets (knownNow fs .codes)) (sym e) (sets-right fs (ltb-false (passedNow fs) (length fs) q))
+          (subst (λ (gs : List Exchange). Right (Fits a c) gs (refuted (passedNow fs + 1) (length gs))) (sym e) (answered-by fs true q))
+      go fs e false q = subst (ExactSets (knownNow fs .codes)) (sym e) (sets-right fs q)
 
   -- there is one code for each field
   told-long : (es : List Exchange) (k : ℕ) → length (knownFor k (recorded a c es) .1) ≡ fieldCount
@@ -197,12 +190,11 @@ module _ (a c : ℕ) (in-address : within (fieldRange address) a ≡ true) (in-a
             let i : passedNow es + 1 - 1 ≡ passedNow es = omega arith in
             let split : take (passedNow es + 1) es ≡ before ++ (refuting ∷ []) =
             ap (λ (j : ℕ). take j es) (add-one (passedNow es)) ∙ take-suc es (passedNow es) (exchange [] []) l in (
-              refl,
-              refuted-at es l,
+              answered-by es true q,
               subst (λ (j : ℕ). (e : Exchange) × (take (passedNow es + 1) es ≡ take j es ++ (e ∷ [])) × Because a c (take j es) e (reasonAs reasoned)) (sym i)
                   (refuting, split, because-so l),
             )
-        go false q = (refl, sets-right es (ltb-false (passedNow es) (length es) q) .0)
+        go false q = answered-by es false q
 
 -- ---- what holds of the two ends of every recording's tests holds of every recording
 record Rightly (x : Recording) : Type 0 where

@@ -1,8 +1,7 @@
--- Laws for the search of a reason: one for each return of `left_alone`, `first_alone`, `by_reply` and `find`; and that the field which
--- is found has a number. Assumes nothing.
-use Prim.Native.Nat.{ℕ, zero, suc, _+_, _-_, _≤_, _<_}
+-- Laws for the search of a reason: one for each return of `left_alone`, `first_alone`, `by_reply` and `find`. Assumes nothing.
+use Prim.Native.Nat.{ℕ, suc, _+_, _-_, _≤_, _<_}
 use mathlib.Core.Bool.{Bool, true, false, not}
-use mathlib.Core.Path.{_≡_, refl, sym, ap, subst, _∙_}
+use mathlib.Core.Path.{_≡_, refl, sym, ap, _∙_}
 use mathlib.Core.List.{List}
 use native.Mathlib.Omega.{arith}
 use borrow.Author.Tests.{not-true, not-false}
@@ -102,43 +101,3 @@ module _ (a c : ℕ) (q reply : List ℕ) (k : Knowledge) (x : Said) (e : x ≡ 
   found-texts n m r z w = w ∙ sym (by-said (said.Texts n m) z)
 
 pub ruleset finding = (found-quiet, found-answered, found-unanswered, found-unreadable, found-texts)
-
--- ---- the field that is found is at most one behind the last
-first-within : (p : ℕ → Bool) (n i : ℕ) → firstFrom p n i ≤ i + n
-unfolding firstFrom
-first-within p zero i = omega arith
-first-within p (suc n) i = go (p i) (first-within p n (i + 1))
-  where
-    go : (b : Bool) → firstFrom p n (i + 1) ≤ i + 1 + n → pick b i (firstFrom p n (i + 1)) ≤ i + suc n
-    go true h = omega arith
-    go false h = omega arith
-
-module _ (a c : ℕ) (k : Knowledge) (e : Exchange) where
-  -- the position in a reason, 0 if it names none
-  abbrev fieldIn : Reason → ℕ
-  fieldIn (reason.Answered n) = 0
-  fieldIn reason.Unanswered = 0
-  fieldIn reason.Impossible = 0
-  fieldIn (reason.Field f held needs) = f
-
-  reply-within : fieldIn (replyReason a c e k) ≤ fieldCount
-  unfolding replyReason firstAlone
-  reply-within = go (needed a c e .alive)
-    where
-      at : ℕ → Reason
-      at p = reason.Field p (codeAt p k) (codeAt p (needed a c e))
-
-      go : (x : Bool) → fieldIn (pick x (at (firstAlone a c e k)) reason.Impossible) ≤ fieldCount
-      go true = first-within (λ p. not (alone a c e k p .alive)) fieldCount 0
-      go false = omega arith
-
-  said-within : (x : Said) → fieldIn (reasonBy a c k e x) ≤ fieldCount
-  said-within said.Quiet = omega arith
-  said-within (said.Answered n) = omega arith
-  said-within said.Unanswered = omega arith
-  said-within said.Unreadable = omega arith
-  said-within (said.Texts n m) = reply-within
-
-  pub found-within : (f held needs : ℕ) → reasonOf a c k e ≡ reason.Field f held needs → f ≤ fieldCount
-  unfolding reasonOf
-  found-within f held needs z = subst (λ (r : Reason). fieldIn r ≤ fieldCount) z (said-within (saidOf a e))

@@ -3,6 +3,8 @@ use hearing::Said;
 use knowledge::FIELDS;
 use knowledge::Knowledge;
 ghost use mathlib.Core.Path.{_≡_};
+ghost use Prim.Native.Nat.{_≤_};
+ghost use Rattle.state.specs.Field.{fieldCount};
 ghost use Rattle.hearing.specs.Hearing.{exchange};
 ghost use Rattle.reason.specs.Reason.{alone, firstAlone, replyReason, reasonOf};
 
@@ -14,7 +16,7 @@ pub enum Reason {
     // A reply that no record gives, whatever its fields.
     Impossible,
     // The field at this position: the code of its set before the exchange, and of what the reply needs.
-    Field(usize, u32, u32),
+    Field(u32, u32, u32),
 }
 
 // What the reply leaves where nothing is known but the set at one position.
@@ -34,7 +36,7 @@ fn left_alone(
 
 // The first position whose set alone leaves nothing.
 fn first_alone(known: Knowledge, address: u8, access: u8, request: &[u8], reply: &[u8]) -> usize
-    ensures { λ p. ⌜ p ≡ firstAlone address access (exchange (now (request .entry)) (now (reply .entry))) known ⌝ }
+    ensures { λ p. ⌜ (p ≡ firstAlone address access (exchange (now (request .entry)) (now (reply .entry))) known) × (p ≤ fieldCount) ⌝ }
 {
     let mut at = 0;
     while at < FIELDS {
@@ -63,7 +65,7 @@ fn by_reply(known: Knowledge, address: u8, access: u8, request: &[u8], reply: &[
         return Reason::Impossible;
     }
     let at = first_alone(known, address, access, request, reply);
-    Reason::Field(at, known.code(at), needed.code(at))
+    Reason::Field(at as u32, known.code(at), needed.code(at))
 }
 
 // Why an exchange refutes, with what is known before it.

@@ -121,10 +121,10 @@ module _ {S E K : Type 0} (step : S → E → S) (Agree : S → E → Type 0) (S
     learnt-sound (e ∷ es) k v = learnt-sound es (learn k e) (exact .kept k e v)
 
     -- the count is of those that pass, and not one more
-    pub record Last (k : K) (es : List E) (c : ℕ) : Type 0 where
-      pub bound : c ≤ length es
-      pub holds : From k (take c es)
-      pub fails : c < length es → From k (take (suc c) es) → ⊥
+    record Last (k : K) (es : List E) (c : ℕ) : Type 0 where
+      bound : c ≤ length es
+      holds : From k (take c es)
+      fails : c < length es → From k (take (suc c) es) → ⊥
 
     more : (k : K) (e : E) (es : List E) (c : ℕ) → Sound k → Last (learn k e) es c → Last k (e ∷ es) (suc c)
     more k e es c g l =
@@ -139,7 +139,7 @@ module _ {S E K : Type 0} (step : S → E → S) (Agree : S → E → Type 0) (S
               l .fails (omega arith) (step r e, exact .onward k e r g n (a .0), a .1);
         }
 
-    pub last : (k : K) (es : List E) → Sound k → alive k ≡ true → Last k es (passed learn alive k es)
+    last : (k : K) (es : List E) → Sound k → alive k ≡ true → Last k es (passed learn alive k es)
     unfolding passed
     last k [] v h = let (s, m) = exact .some k v h in record { bound = omega arith; holds = (s, m, tt); fails = λ l f. omega arith }
     last k (e ∷ es) v h = go (alive (learn k e)) refl (λ a. last (learn k e) es (exact .kept k e v) a)

@@ -9,7 +9,8 @@ use Rattle.state.specs.declared.Record.{Record}
 use Rattle.state.specs.Field.{Field, get, Held}
 use Rattle.state.specs.Valid.{fullLength}
 use Rattle.recording.specs.Form.{Exchange, Recording, J, recorded, recordingOf}
-use Rattle.recording.specs.Replay.{SomeLeads}
+use Rattle.recording.specs.Replay as replay
+use Rattle.recording.specs.Replay.{SomeLeads, Right}
 use Rattle.recording.specs.Statement.{called, Agrees, next, Start, Fits}
 
 -- ---- what is known
@@ -27,23 +28,19 @@ Sets = Field → ℕ → Bool
 abbrev pub InProduct : Sets → Record → Type 0
 InProduct sets r = (fullLength r ≡ true) × ((f : Field) → Held f → sets f (get f r) ≡ true)
 
--- exchange i is the first that no record to start from survives
-abbrev pub RefutedAt : ℕ → ℕ → List Exchange → ℕ → Type 0
-RefutedAt a c es i = (1 ≤ i) × (i ≤ length es) × Fits a c (take (i - 1) es) × (Fits a c (take i es) → ⊥)
-
 -- what is told of the record after the first k exchanges: Jn, the exchange that refutes, or the sets
 pub data Told : Type 0 where
   refused : ℕ → Told
   refuted : ℕ → Told
   known : Sets → Told
 
--- "k beyond the last counts as the last"
+-- "k beyond the last counts as the last"; the exchange that refutes is the one that demand 3 names
 abbrev pub ToldOf : Recording → ℕ → Told → Type 0
 ToldOf (J n) k (refused m) = m ≡ n
 ToldOf (J n) k (refuted i) = ⊥
 ToldOf (J n) k (known sets) = ⊥
 ToldOf (recorded a c es) k (refused m) = ⊥
-ToldOf (recorded a c es) k (refuted i) = (i ≤ k) × RefutedAt a c es i
+ToldOf (recorded a c es) k (refuted i) = (i ≤ k) × Right (Fits a c) es (replay.refuted i (length es))
 ToldOf (recorded a c es) k (known sets) = Fits a c (take k es) × ((r : Record) → InProduct sets r ↔ MayHold a c (take k es) r)
 
 abbrev pub RightlyTold : List ℕ → ℕ → Told → Type 0
@@ -82,7 +79,7 @@ Because a c es e (conflict f before needed) =
     NumbersOf (MayHold a c es) f before × NumbersOf (Gives a c e) f needed × ((n : ℕ) → before n ≡ true → needed n ≡ true → ⊥)
     × ((r : Record) → Gives a c e r → before (get f r) ≡ true → ⊥) × ((r : Record) × Gives a c e r)
 
--- the answer: Jn, or fits N, and no reason; or refuted at I of N, and why
+-- the answer, as demand 3 has it, and for a refutation the reason: Jn; fits N; refuted at I of N, and why
 pub data Why : Type 0 where
   unread : ℕ → Why
   fitting : ℕ → Why
@@ -93,9 +90,9 @@ WhyOf (J n) (unread m) = m ≡ n
 WhyOf (J n) (fitting m) = ⊥
 WhyOf (J n) (because i m reason) = ⊥
 WhyOf (recorded a c es) (unread m) = ⊥
-WhyOf (recorded a c es) (fitting n) = (n ≡ length es) × Fits a c es
+WhyOf (recorded a c es) (fitting n) = Right (Fits a c) es (replay.fits n)
 WhyOf (recorded a c es) (because i n reason) =
-    (n ≡ length es) × RefutedAt a c es i
+    Right (Fits a c) es (replay.refuted i n)
     × ((e : Exchange) × (take i es ≡ take (i - 1) es ++ (e ∷ [])) × Because a c (take (i - 1) es) e reason)
 
 abbrev pub RightlyReasoned : List ℕ → Why → Type 0

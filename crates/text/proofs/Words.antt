@@ -11,14 +11,11 @@ use lib.Dec.{eqb, leb}
 use lib.ListN.{length, take, drop, getD, length-append, length-drop, length-take, drop-of-length-le}
 use borrow.Author.Tests.{le-leb, lt-leb, eq-eqb, ne-eqb, eqb-true, not-true, not-false}
 use Rattle.base.specs.Test.{pick, between, allBetween}
-use Rattle.base.proofs.Tests.{by-test, and-yes, and-left, and-right, between-yes, between-low, between-high}
+use Rattle.base.proofs.Tests.{never, by-test, and-yes, and-left, and-right, between-yes, between-low, between-high}
 use Rattle.base.proofs.Lists.{next}
 use Rattle.text.specs.declared.Digits.{Digits}
 use Rattle.text.specs.declared.Digits.the-variants as digitsRead
 use Rattle.text.specs.Word.{digits, allDigits, valueFrom, valueOf, numberFor, equal}
-
-never : _≡_ {A = ℕ} 0 1 → ⊥
-never e = omega arith
 
 -- ---- digits
 

@@ -1,5 +1,5 @@
 -- `exports::cause_numbers` meets its contract: one law for each cause. Assumes nothing.
-use Rattle.exports.proofs.Tells.{cause-numbered, causing}
+use Rattle.exports.proofs.Tells.{causing}
 use borrow.Author.Needs.{needs}
 use Rattle.exports.proofs.cause_numbers.Statement.{statement}
 use Rattle.exports.proofs.cause_numbers.Tie as tie
@@ -15,8 +15,6 @@ cause-numbers-spec =
     (λ c κs. search needs)
     (λ c. search needs)
     (λ c κs. search needs)
-    (λ c. search needs)
-    (λ c κs. search cause-numbered)
     (λ c. search causing)
     (λ c. search causing)
     (λ c. search causing))

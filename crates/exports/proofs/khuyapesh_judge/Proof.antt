@@ -13,8 +13,6 @@ khuyapesh-judge-spec =
     (λ c. search needs)
     (λ c. search needs)
     (λ c κs. search needs)
-    (λ c κs. search needs)
-    (λ c. search needs)
     (λ c. search judging)
     (λ c. search judging)
     (λ c. search judging))

@@ -1,5 +1,5 @@
 -- `exports::khuyapesh_why` meets its contract: the numbers of the cause. Assumes nothing.
-use Rattle.exports.proofs.Tells.{why-numbered, why-told}
+use Rattle.exports.proofs.Tells.{why-told}
 use borrow.Author.Needs.{needs}
 use Rattle.exports.proofs.khuyapesh_why.Statement.{statement}
 use Rattle.exports.proofs.khuyapesh_why.Tie as tie
@@ -9,5 +9,5 @@ khuyapesh-why-spec =
     tie.close
     (tie.spec
     (λ c κs. search needs)
-    (λ c κs. search why-numbered)
+    (λ c κs. search needs)
     (λ c. search why-told))

@@ -1,11 +1,8 @@
 -- `exports::reason_numbers` meets its contract: one law for each reason. Assumes nothing.
-use Rattle.exports.proofs.Tells.{field-fits, reasoning}
+use Rattle.exports.proofs.Tells.{reasoning}
 use borrow.Author.Needs.{needs}
 use Rattle.exports.proofs.reason_numbers.Statement.{statement}
 use Rattle.exports.proofs.reason_numbers.Tie as tie
-
-cast-why-numbers : tie.Need-cast-why-numbers
-cast-why-numbers c = record { fits = search field-fits }
 
 pub reason-numbers-spec : {M : Type 1} → statement M
 reason-numbers-spec =
@@ -19,7 +16,6 @@ reason-numbers-spec =
     (λ c. search needs)
     (λ c κs. search needs)
     (λ c. search needs)
-    cast-why-numbers
     (λ c κs. search needs)
     (λ c. search reasoning)
     (λ c. search reasoning)

@@ -12,6 +12,7 @@ by-reply-spec =
     (λ c κs. search needs)
     (λ c. search replying)
     (λ c κs. search needs)
+    (λ c. search needs)
     (λ c κs. search needs)
     (λ c κs. search needs)
     (λ c. search replying))

@@ -21,8 +21,8 @@ first-alone-spec =
     μ-loop
     (λ c. search searched-none)
     (λ c κs. search needs)
-    (λ c. search searching)
+    (λ c. (search searching, search needs))
     (λ c. search needs)
     (λ c. search needs)
     (λ c. search searched-on)
-    (λ c. search searching))
+    (λ c. (search searching, search needs)))
