@@ -1,5 +1,5 @@
-/* The proved blending controller, panel, stored form, host side, drum change, judge, and what a recording tells of the
- * record, over bytes and numbers. For C99 and C++.
+/* The proved blending controller, with or without a bank of finished batches, panel, stored forms, host side, drum
+ * change, judge, and what a recording tells of the record, over bytes and numbers. For C99 and C++.
  *
  * Every function takes any bytes, lengths and numbers. What no proof can give is asked of the pointers:
  *     none is null, also where the length beside it is 0;
@@ -11,10 +11,11 @@
  *
  * A call takes under KHUYAPESH_STACK bytes of stack (khuyapesh_board, which holds all records while it works, under
  * KHUYAPESH_BOARD_STACK; khuyapesh_known, khuyapesh_learn and khuyapesh_why, which hold several records' sets, under
- * KHUYAPESH_TELL_STACK) and no heap, writes no data but what is lent, and needs nothing outside of the library but memcpy,
- * memmove, memset or memcmp. So every function is re-entrant, and threads may call at the same time, each over buffers of
- * its own. (A dynamic linker that looks up memcpy when it is first called takes stack of its own then; linking with -z now,
- * or statically, avoids that.)
+ * KHUYAPESH_TELL_STACK; khuyapesh_banked_call, khuyapesh_banked_several and khuyapesh_bank, which hold a bank, under
+ * KHUYAPESH_BANK_STACK) and no heap, writes no data but what is lent, and needs nothing outside of the library but
+ * memcpy, memmove, memset or memcmp. So every function is re-entrant, and threads may call at the same time, each over
+ * buffers of its own. (A dynamic linker that looks up memcpy when it is first called takes stack of its own then;
+ * linking with -z now, or statically, avoids that.)
  *
  * A record is lent in its stored form. A silence or refusal leaves every lent byte as it was, unless said otherwise. */
 #ifndef KHUYAPESH_H
@@ -26,6 +27,7 @@
 #define KHUYAPESH_STACK 4096
 #define KHUYAPESH_BOARD_STACK 12288
 #define KHUYAPESH_TELL_STACK 8192
+#define KHUYAPESH_BANK_STACK 24576
 
 /* Bytes of a stored record as it is written, which is version 2; of the longest frame, and the least room for a reply, a
  * built frame or a text that is read; of the longest recording. Stored bytes of version 1 have 177 and are only read: they
@@ -33,6 +35,12 @@
 #define KHUYAPESH_STORED_LENGTH 180
 #define KHUYAPESH_FRAME_ROOM 64
 #define KHUYAPESH_RECORDING_LENGTH 65535
+
+/* The finished batches that are kept, and the bytes of a stored bank with so many: version 1; its total length in 2
+ * bytes, high byte first; then 12 bytes for each batch, oldest first: batch number 2, recipe 1, factor 2, raw volume 4,
+ * preset 3. An empty bank is 01 00 03. */
+#define KHUYAPESH_BANK_BATCHES 100
+#define KHUYAPESH_BANK_LENGTH 1203
 
 /* The most records on one board. */
 #define KHUYAPESH_BOARD_RECORDS 16
@@ -83,18 +91,20 @@
 #define KHUYAPESH_DONE 0u
 #define KHUYAPESH_FITS 0u
 #define KHUYAPESH_REFUTED 1u
+#define KHUYAPESH_NOT_JUDGED 2u
 #define KHUYAPESH_NO_MORE 1u
 /* one of these reasons of khuyapesh_why, */
 #define KHUYAPESH_REPLY_TO_SILENCE 1u
 #define KHUYAPESH_NO_REPLY 2u
 #define KHUYAPESH_NO_RECORD 3u
 #define KHUYAPESH_FIELD 4u
+#define KHUYAPESH_KEPT_BATCH 5u
 /* or, from 100 on, one of these classes plus the number that documents 01 and 02 give within it:
  *     silences: S2 short reply buffer, S3 request's length, S4 mark, S5 check, S6 text byte, S7 address or code not of its
  *         form, S8 another address, S9 no record or too many on a board, S11 an address twice on it (a record that is not
  *         valid, S1 and S10, is answered by its K)
  *     stored bytes: K1 length, K2 version that is not the length's, K3 length field, K4 field out of range, K6
- *         short buffer
+ *         short buffer, K7 a bank of wrong version, length or field
  *     no such kind or event: alone, nothing is added
  *     host side: H1 short buffer, H2 text's length, H3 text byte
  *     recordings: J1 length, J2 version, J3 length field, J4 address or access, J5 cut exchange
@@ -136,6 +146,24 @@ uint32_t khuyapesh_call(uint8_t kind, uint8_t *stored, size_t stored_length, con
 uint32_t khuyapesh_several(uint8_t *stored, size_t stored_length, const uint8_t *bytes, size_t bytes_length, uint8_t *reply,
                            size_t reply_length, size_t *taken, size_t *answered, size_t *written);
 
+/* One call of the controller with a bank of finished batches beside its record. The bank is lent as a buffer of exactly
+ * KHUYAPESH_BANK_LENGTH bytes that starts with a stored bank, whose own length field says how far it reaches; it grows
+ * in place, and what stands behind it keeps its values. RT R NNN is answered from the bank, 001 the newest, or by NO03;
+ * an accepted ET from Stopped or Done stores the batch, and the oldest of KHUYAPESH_BANK_BATCHES gives its room to it;
+ * all else is as in khuyapesh_call, which has no bank and answers RT R NNN by NO01. Answers the reply's length, with
+ * the reply at the start of the reply buffer, the rest of which stays, and the record and the bank after it in their
+ * places; or no such kind, then K1 to K4 or K6 for the record as in khuyapesh_call, then K7 for the bank, also if
+ * bank_length is any other, then S2 to S8. */
+uint32_t khuyapesh_banked_call(uint8_t kind, uint8_t *stored, size_t stored_length, uint8_t *bank, size_t bank_length,
+                               const uint8_t *request, size_t request_length, uint8_t *reply, size_t reply_length);
+
+/* Answers all minicomputer frames in the lent bytes as khuyapesh_several does, as khuyapesh_banked_call would one by
+ * one. Answers KHUYAPESH_DONE, with the bank after them in its place; or K1 to K4 or K6 for the record, then K7 for the
+ * bank, with 0 in all three numbers. */
+uint32_t khuyapesh_banked_several(uint8_t *stored, size_t stored_length, uint8_t *bank, size_t bank_length,
+                                  const uint8_t *bytes, size_t bytes_length, uint8_t *reply, size_t reply_length,
+                                  size_t *taken, size_t *answered, size_t *written);
+
 /* One call of a board with up to KHUYAPESH_BOARD_RECORDS records, each with an address of its own, lent end to end in their
  * stored form: the request goes to the record with its address. Answers the reply's length, with the reply at the start of
  * the reply buffer, the rest of which stays, and the record after it in its place; no byte of another record is written. Or
@@ -156,6 +184,12 @@ uint32_t khuyapesh_panel(uint8_t event, uint16_t number, uint8_t *stored, size_t
  * untouched, whatever the stored bytes are. */
 uint32_t khuyapesh_stored(const uint8_t *stored, size_t stored_length, uint8_t *out, size_t out_length);
 
+/* Reads a stored bank, which is all of the bank_length bytes (of a buffer that is lent to grow: those that its length
+ * field says), and writes the bank that was read to the start of out, the rest of which stays. Answers K6 if out is
+ * shorter than what would be written, with out untouched; else KHUYAPESH_DONE, or K7, and then the bank written is the
+ * empty one, 3 bytes. */
+uint32_t khuyapesh_bank(const uint8_t *bank, size_t bank_length, uint8_t *out, size_t out_length);
+
 /* Host side: builds the frame of a text at the start of out, the rest of which stays. Answers the frame's length; or no
  * such kind, then H1 to H3. */
 uint32_t khuyapesh_build(uint8_t kind, const uint8_t *text, size_t text_length, uint8_t *out, size_t out_length);
@@ -164,23 +198,29 @@ uint32_t khuyapesh_build(uint8_t kind, const uint8_t *text, size_t text_length, 
  * kind, then H1, then S3 to S6. */
 uint32_t khuyapesh_read(uint8_t kind, const uint8_t *frame, size_t frame_length, uint8_t *out, size_t out_length);
 
-/* Judges a recording. Answers KHUYAPESH_FITS for `fits N`, with 0 in *place and N in *count; KHUYAPESH_REFUTED for `refuted
- * at I of N`, with I in *place and N in *count; J1 to J5 for `refused Jn`, with 0 in both. */
+/* Judges a recording. Answers KHUYAPESH_FITS for `fits N`, with 0 in *place and N in *count; KHUYAPESH_REFUTED for
+ * `refuted at I of N`, with I in *place and N in *count; KHUYAPESH_NOT_JUDGED for `not judged at I`, with I in *place
+ * and N in *count; J1 to J5 for `refused Jn`, with 0 in both. The controller is one with a bank, of which nothing is
+ * known but that it is valid. A recording is not judged from the first exchange on whose request asks for a kept batch,
+ * RT R NNN, and meets no silence: that is exchange I of `not judged at I`. Those before it, taken alone, fit then, and
+ * nothing is said of it nor of those behind it. */
 uint32_t khuyapesh_judge(const uint8_t *recording, size_t recording_length, size_t *place, size_t *count);
 
 /* What a recording tells of the record after its first exchanges (more of them than there are count as all): the records
  * that a right controller may hold then are exactly those whose every field is in its set. Answers KHUYAPESH_DONE, with the
  * set of each field at its number in sets, the rest of which stays, and 0 in *place; or H1 for under KHUYAPESH_FIELDS sets,
  * then J1 to J5, with 0 in *place; or KHUYAPESH_REFUTED where one of these exchanges refutes the recording, with that one in
+ * *place; or KHUYAPESH_NOT_JUDGED where one of them is the one at which the recording is not judged, with that one in
  * *place. */
 uint32_t khuyapesh_known(const uint8_t *recording, size_t recording_length, size_t exchanges, uint32_t *sets,
                          size_t sets_length, size_t *place);
 
-/* One exchange more: from the sets before it, those after it. From the sets of khuyapesh_known of some exchanges, with the
- * recording's address and access, and the exchange that comes next, it gives those of khuyapesh_known of one more; so a line
- * can be followed while it talks, from the sets of a recording without exchanges on. Answers KHUYAPESH_FITS, with the sets
- * after it in their place; KHUYAPESH_REFUTED if no record with its fields in the sets gives this reply; or H1 for under
- * KHUYAPESH_FIELDS sets. */
+/* One exchange more: from the sets before it, those after it. From the sets of khuyapesh_known of some exchanges, with
+ * the recording's address and access, and the exchange that comes next, it gives those of khuyapesh_known of one more;
+ * so a line can be followed while it talks, from the sets of a recording without exchanges on. Answers H1 for under
+ * KHUYAPESH_FIELDS sets; else KHUYAPESH_NOT_JUDGED if the request asks for a kept batch and meets no silence, whatever
+ * the sets and the reply; else KHUYAPESH_REFUTED if no record with its fields in the sets gives this reply; else
+ * KHUYAPESH_FITS, with the sets after it in their place. */
 uint32_t khuyapesh_learn(uint8_t address, uint8_t access, const uint8_t *request, size_t request_length,
                          const uint8_t *reply, size_t reply_length, uint32_t *sets, size_t sets_length);
 
@@ -188,8 +228,9 @@ uint32_t khuyapesh_learn(uint8_t address, uint8_t access, const uint8_t *request
  * KHUYAPESH_FIELDS on. */
 uint32_t khuyapesh_may_hold(size_t field, uint32_t set, uint32_t number);
 
-/* Why a recording is refuted. Answers KHUYAPESH_FITS if it is not, with 0 in *place; J1 to J5, with 0 in *place; else, with
- * the refuted exchange in *place, one of
+/* Why a recording is refuted, or not judged to its end. Answers KHUYAPESH_FITS if it fits, with 0 in *place; J1 to J5,
+ * with 0 in *place; KHUYAPESH_KEPT_BATCH for `not judged at I`, with I in *place; else, with the refuted exchange in
+ * *place, one of
  *     KHUYAPESH_REPLY_TO_SILENCE   it has a reply, but every controller with the address is silent; n of Sn in *number
  *     KHUYAPESH_NO_REPLY           it has no reply, but every controller with the address replies
  *     KHUYAPESH_NO_RECORD          no valid record with the address and the access gives this reply, whatever its fields

@@ -306,6 +306,43 @@ MONDAY_AFTER_THE_OK = [
 MONDAY_DRUM_CHANGE = MONDAY_BEFORE_THE_FAULT + MONDAY_AFTER_THE_OK
 
 
+# The Thursday of that week, on the same unit
+
+THURSDAY_LOOK_AROUND = [
+    # Nothing runs, and the last batch was number 423.
+    ("EQ", "000000"),
+    ("TN", "TN 0423"),
+    ("RC", "RC 03 00010012"),
+]
+
+# What came of Tuesday's batch, number 420: it is the fourth from the newest that are kept.
+TUESDAYS_BATCH = [("RT R 004", "RT R 00003987 004")]
+
+# The new drum's factor once more, and the old one is still shown.
+THURSDAY_DRUM_CHANGE = [
+    ("PC 032 10150", "OK"),
+    ("RC", "RC 03 00010012"),
+]
+
+THURSDAY_ASKS = THURSDAY_LOOK_AROUND + TUESDAYS_BATCH + THURSDAY_DRUM_CHANGE
+THURSDAY_ASKS_LAST = THURSDAY_LOOK_AROUND + THURSDAY_DRUM_CHANGE + TUESDAYS_BATCH
+
+THURSDAY_NOT_HEARD = THURSDAY_LOOK_AROUND + [
+    # Meant for the controller with address 13.
+    (framed(13, "RT R 004"), SILENCE),
+    # A digit became another on the way; the check character is still that of 004.
+    (framed(12, "RT R 004").replace(b"004", b"006"), SILENCE),
+    # Mistyped, and a total that is kept of no batch.
+    ("RT R 4", "NO01"),
+    ("RT N 004", "NO01"),
+    # The raw total of the record itself is no kept batch.
+    ("RT R", "RT R 00004003"),
+    # So all that follows is judged; this time the new factor is shown.
+    ("PC 032 10150", "OK"),
+    ("RC", "RC 03 00010150"),
+]
+
+
 # A day without a fault: address 7, access 2
 
 HONEST_DAY = [
@@ -681,6 +718,9 @@ def every_recording():
         "running_with_keypad_on": recording(1, 2, RUNNING_WITH_KEYPAD_ON),
         "service_walk": recording(1, 2, SERVICE_WALK),
         "started_with_alarm": recording(1, 2, STARTED_WITH_ALARM),
+        "thursday_asks": recording(12, 2, THURSDAY_ASKS),
+        "thursday_asks_last": recording(12, 2, THURSDAY_ASKS_LAST),
+        "thursday_not_heard": recording(12, 2, THURSDAY_NOT_HEARD),
         "version_2": recording(1, 2, BENCH_OTHER_RECIPE, version=2),
         "wrong_frame_answered": recording(1, 2, WRONG_FRAME_ANSWERED),
         "wrong_frame_silence": recording(1, 2, WRONG_FRAME_SILENCE),

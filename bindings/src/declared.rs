@@ -26,6 +26,30 @@ extern "C" {
         answered: *mut usize,
         written: *mut usize,
     ) -> u32;
+    fn khuyapesh_banked_call(
+        kind: u8,
+        stored: *mut u8,
+        stored_length: usize,
+        bank: *mut u8,
+        bank_length: usize,
+        request: *const u8,
+        request_length: usize,
+        reply: *mut u8,
+        reply_length: usize,
+    ) -> u32;
+    fn khuyapesh_banked_several(
+        stored: *mut u8,
+        stored_length: usize,
+        bank: *mut u8,
+        bank_length: usize,
+        bytes: *const u8,
+        bytes_length: usize,
+        reply: *mut u8,
+        reply_length: usize,
+        taken: *mut usize,
+        answered: *mut usize,
+        written: *mut usize,
+    ) -> u32;
     fn khuyapesh_board(
         kind: u8,
         stored: *mut u8,
@@ -60,6 +84,7 @@ extern "C" {
         out: *mut u8,
         out_length: usize,
     ) -> u32;
+    fn khuyapesh_bank(bank: *const u8, bank_length: usize, out: *mut u8, out_length: usize) -> u32;
     fn khuyapesh_build(
         kind: u8,
         text: *const u8,
@@ -160,6 +185,63 @@ pub fn several(stored: &mut [u8], bytes: &[u8], reply: &mut [u8]) -> (u32, Repor
     (answer, report)
 }
 
+/// One call of the controller with a bank of finished batches beside its record.
+pub fn banked_call(
+    kind: u8,
+    stored: &mut [u8],
+    bank: &mut [u8],
+    request: &[u8],
+    reply: &mut [u8],
+) -> u32 {
+    // SAFETY: pointers and lengths of live slices; those that are written overlap no other.
+    unsafe {
+        khuyapesh_banked_call(
+            kind,
+            stored.as_mut_ptr(),
+            stored.len(),
+            bank.as_mut_ptr(),
+            bank.len(),
+            request.as_ptr(),
+            request.len(),
+            reply.as_mut_ptr(),
+            reply.len(),
+        )
+    }
+}
+
+/// All minicomputer frames in the lent bytes, with a bank beside the record: the answer, and what is reported beside it.
+pub fn banked_several(
+    stored: &mut [u8],
+    bank: &mut [u8],
+    bytes: &[u8],
+    reply: &mut [u8],
+) -> (u32, Report) {
+    // No number is one that the library should leave.
+    let mut report = Report {
+        taken: usize::MAX,
+        answered: usize::MAX,
+        written: usize::MAX,
+    };
+    // SAFETY: pointers and lengths of live slices, and pointers to three numbers of our own; what is
+    // written overlaps nothing else.
+    let answer = unsafe {
+        khuyapesh_banked_several(
+            stored.as_mut_ptr(),
+            stored.len(),
+            bank.as_mut_ptr(),
+            bank.len(),
+            bytes.as_ptr(),
+            bytes.len(),
+            reply.as_mut_ptr(),
+            reply.len(),
+            &mut report.taken,
+            &mut report.answered,
+            &mut report.written,
+        )
+    };
+    (answer, report)
+}
+
 /// One call of a board, its records end to end in their stored form.
 pub fn board(kind: u8, stored: &mut [u8], request: &[u8], reply: &mut [u8]) -> u32 {
     // SAFETY: pointers and lengths of live slices; those that are written overlap no other.
@@ -225,6 +307,12 @@ pub fn panel(event: u8, number: u16, stored: &mut [u8]) -> u32 {
 pub fn stored(stored: &[u8], out: &mut [u8]) -> u32 {
     // SAFETY: pointers and lengths of live slices that do not overlap.
     unsafe { khuyapesh_stored(stored.as_ptr(), stored.len(), out.as_mut_ptr(), out.len()) }
+}
+
+/// Reads a stored bank and writes what was read.
+pub fn bank(bank: &[u8], out: &mut [u8]) -> u32 {
+    // SAFETY: pointers and lengths of live slices that do not overlap.
+    unsafe { khuyapesh_bank(bank.as_ptr(), bank.len(), out.as_mut_ptr(), out.len()) }
 }
 
 /// Builds the frame of a text.
@@ -297,7 +385,7 @@ pub fn may_hold(field: usize, set: u32, number: u32) -> u32 {
     unsafe { khuyapesh_may_hold(field, set, number) }
 }
 
-/// Why a recording is refuted: the answer, and what is told beside it.
+/// Why a recording is refuted, or not judged to its end: the answer, and what is told beside it.
 pub fn why(recording: &[u8]) -> (u32, Why) {
     // No number is one that the library should leave.
     let mut why = Why {

@@ -57,11 +57,13 @@ impl Following {
         })
     }
 
-    /// One exchange more. False if no record that was possible gives this reply; nothing changes then.
-    pub fn learn(&mut self, request: &[u8], reply: &[u8]) -> bool {
+    /// One exchange more: `FITS`; `REFUTED` if no record that was possible gives this reply; `NOT_JUDGED` if a kept batch
+    /// is asked for, of which nothing is known. Only one that fits is learnt from; otherwise nothing changes.
+    pub fn learn(&mut self, request: &[u8], reply: &[u8]) -> u32 {
         let mut sets = self.sets;
-        if learn(self.address, self.access, request, reply, &mut sets) != FITS {
-            return false;
+        let answer = learn(self.address, self.access, request, reply, &mut sets);
+        if answer != FITS {
+            return answer;
         }
         self.exchanges += 1;
         for (field, set) in sets.into_iter().enumerate() {
@@ -70,7 +72,7 @@ impl Following {
             }
         }
         self.sets = sets;
-        true
+        FITS
     }
 
     /// How many exchanges were learnt from.

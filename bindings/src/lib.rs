@@ -1,5 +1,5 @@
-//! The proved blending controller, panel, stored form, host side, drum change and judge, and what a recording tells of a
-//! record, for Rust: a test bench, a host's program, or whoever keeps recordings.
+//! The proved blending controller, with or without a bank of finished batches, panel, stored forms, host side, drum change
+//! and judge, and what a recording tells of a record, for Rust: a test bench, a host's program, or whoever keeps recordings.
 //!
 //! Each function is the one of `include/khuyapesh.h` with `khuyapesh_` before its name, over slices. That header says what
 //! each takes and answers; any bytes, lengths and numbers are safe to pass. [`Exchanges`] and [`Following`] go through a
@@ -14,8 +14,8 @@ mod declared;
 mod following;
 
 pub use declared::{
-    board, build, call, drum_begin, drum_take, exchange, judge, known, learn, may_hold, panel,
-    read, several, stored, why,
+    bank, banked_call, banked_several, board, build, call, drum_begin, drum_take, exchange, judge,
+    known, learn, may_hold, panel, read, several, stored, why,
 };
 pub use following::{Exchanges, Following};
 
@@ -25,6 +25,10 @@ pub const HEADER: usize = 5;
 /// Bytes of the longest recording, and of a stored record as it is written.
 pub const RECORDING_LENGTH: usize = 65_535;
 pub const STORED_LENGTH: usize = 180;
+
+/// The finished batches that are kept, and the bytes of a stored bank with so many.
+pub const BANK_BATCHES: usize = 100;
+pub const BANK_LENGTH: usize = 1203;
 
 /// The least room for a reply, a built frame or a text that is read.
 pub const FRAME_ROOM: usize = 64;
@@ -67,6 +71,7 @@ pub const ANY: u32 = u32::MAX;
 pub const DONE: u32 = 0;
 pub const FITS: u32 = 0;
 pub const REFUTED: u32 = 1;
+pub const NOT_JUDGED: u32 = 2;
 pub const NO_MORE: u32 = 1;
 
 // The reasons of `why`.
@@ -74,6 +79,7 @@ pub const REPLY_TO_SILENCE: u32 = 1;
 pub const NO_REPLY: u32 = 2;
 pub const NO_RECORD: u32 = 3;
 pub const FIELD: u32 = 4;
+pub const KEPT_BATCH: u32 = 5;
 
 // The classes of answers, each with a number added.
 pub const SILENCE: u32 = 100;
@@ -84,7 +90,7 @@ pub const RECORDING: u32 = 500;
 pub const DRUM: u32 = 600;
 pub const STOPPED: u32 = 700;
 
-/// What `several` reports.
+/// What `several` and `banked_several` report.
 #[derive(Clone, Copy, PartialEq, Eq, Debug, Default)]
 pub struct Report {
     pub taken: usize,
@@ -92,7 +98,7 @@ pub struct Report {
     pub written: usize,
 }
 
-/// What `why` tells: the refuted exchange; n of Sn or the field; its set before, and what the reply needs of it.
+/// What `why` tells: the exchange that is refuted, or not judged; n of Sn or the field; its set before, and what the reply needs of it.
 #[derive(Clone, Copy, PartialEq, Eq, Debug, Default)]
 pub struct Why {
     pub place: usize,

@@ -1,10 +1,13 @@
 //! The library beside this program on the same inputs: times, which are of one run and test nothing,
 //! or a fixed amount of work for callgrind to count the instructions of. The inputs are of document
-//! 01, without alarms, so that the numbers of one delivery can be held against another's.
+//! 01, without alarms, so that the numbers of one delivery can be held against another's; those with a bank
+//! come last.
 
+use crate::bank::MOST_BATCHES;
 use crate::board::MOST_RECORDS;
 use crate::fault::Fault;
 use crate::frame::{self, Kind, ETX, LEAST_BUFFER, STX};
+use crate::generate::banks;
 use crate::generate::recordings;
 use crate::generate::records::record_without_alarms;
 use crate::generate::requests::{self, command_of_document_01, Commands};
@@ -41,6 +44,7 @@ fn classes(seed: u64) -> Vec<Class> {
     for count in [2, MOST_RECORDS] {
         classes.push(board(&mut random, count));
     }
+    classes.push(banked(&mut random));
     classes
 }
 
@@ -56,6 +60,11 @@ const WRITES: [&str; 8] = [
     "SP",
     "ET",
     "RE BD",
+];
+
+/// A batch from SB to ET, between reads of the record and of what is kept.
+const BATCH: [&str; 12] = [
+    "EQ", "RT R 001", "SB 500", "RT R", "SA", "RT R 050", "RS", "SP", "RT R 100", "TN", "ET", "RC",
 ];
 
 /// Requests to this record.
@@ -154,6 +163,47 @@ fn board(random: &mut Random, count: usize) -> Class {
         units: requests.len(),
         library: called(library::board, forms.clone(), requests.clone()),
         second: called(second, forms, requests),
+    }
+}
+
+/// One function over a kind, stored bytes, a bank, a request and a reply buffer.
+type BankedCall = fn(u8, &mut [u8], &mut [u8], &[u8], &mut [u8]) -> u32;
+
+/// The requests one by one, each over what the last one left.
+fn banked_called(
+    call: BankedCall,
+    mut stored: Vec<u8>,
+    mut bank: Vec<u8>,
+    requests: Vec<Vec<u8>>,
+) -> Box<dyn FnMut()> {
+    let mut reply = [0; LEAST_BUFFER];
+    Box::new(move || {
+        for request in &requests {
+            black_box(call(0, &mut stored, &mut bank, request, &mut reply));
+        }
+    })
+}
+
+/// Batches in a row beside a full bank.
+fn banked(random: &mut Random) -> Class {
+    let record = open_record(random);
+    let form = stored::form(&record).to_vec();
+    let bank = banks::full(random).form(Fault::None);
+    let requests = framed(&record, &BATCH);
+    let second: BankedCall = |kind, stored, bank, request, reply| {
+        interface::banked_call(kind, stored, bank, request, reply, Fault::None)
+    };
+    Class {
+        name: format!("banked: {MOST_BATCHES} batches kept"),
+        unit: "call",
+        units: requests.len(),
+        library: banked_called(
+            library::banked_call,
+            form.clone(),
+            bank.clone(),
+            requests.clone(),
+        ),
+        second: banked_called(second, form, bank, requests),
     }
 }
 

@@ -1,5 +1,6 @@
 //! Commands: their forms, and the refusals that hold whatever the record.
 
+use crate::bank::MOST_BATCHES;
 use crate::fault::Fault;
 use crate::parameters::{parameter_place, value_in_range, Name, LIST};
 use crate::record::{HIGHEST_LEVEL, RECIPES};
@@ -98,6 +99,26 @@ fn writable(place: usize, value: u32, fault: Fault) -> bool {
     value_in_range(place, value)
 }
 
+/// NNN of RT R NNN, which asks for a kept batch; none in any other text.
+pub fn kept_batch(code_and_arguments: &[u8], fault: Fault) -> Option<usize> {
+    let [b'R', b'T', b' ', letter, b' ', number @ ..] = code_and_arguments else {
+        return None;
+    };
+    let (least, most) = match fault {
+        Fault::ShortNumberTaken => (1, 3),
+        Fault::LongNumberTaken => (3, 4),
+        _ => (3, 3),
+    };
+    let number = digits(number, least, most).ok()? as usize;
+    let other_letter = match fault {
+        Fault::OtherLetterTaken => true,
+        // A number that no bank has.
+        Fault::No03BeforeNo01 => !(1..=MOST_BATCHES).contains(&number),
+        _ => false,
+    };
+    (*letter == b'R' || other_letter).then_some(number)
+}
+
 /// The command in what follows the address, or the number of the refusal NO00, 01, 08, 04, 30 or 06.
 pub fn parse(code_and_arguments: &[u8], fault: Fault) -> Result<Command, u8> {
     let (code, mut rest) = code_and_arguments.split_at(2);
@@ -189,6 +210,34 @@ pub fn parse(code_and_arguments: &[u8], fault: Fault) -> Result<Command, u8> {
 #[cfg(test)]
 mod tests {
     use super::*;
+
+    #[test]
+    fn kept_batches() {
+        let number = |text: &str| kept_batch(text.as_bytes(), Fault::None);
+        for (text, asked) in [("RT R 000", 0), ("RT R 001", 1), ("RT R 999", 999)] {
+            assert_eq!(number(text), Some(asked), "{text}");
+        }
+        for text in [
+            "RT R",
+            "RT R ",
+            "RT R 1",
+            "RT R 01",
+            "RT R 0001",
+            "RT G 001",
+            "RT r 001",
+            "RT R 00A",
+            "RT R 001 ",
+            "RT R  001",
+            "RT R001",
+            "RT 001",
+            "RR R 001",
+            "RT R +01",
+            "RT R 001 1",
+        ] {
+            assert_eq!(number(text), None, "{text}");
+            assert!(parse(text.as_bytes(), Fault::None).is_err() || text == "RT R");
+        }
+    }
 
     #[test]
     fn forms() {

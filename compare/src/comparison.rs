@@ -9,8 +9,11 @@ use crate::stored::STORED_LENGTH;
 use crate::{interface, library};
 use std::fmt::{self, Write};
 
+mod banked;
 mod known;
 mod probes;
+
+pub use banked::Unit;
 
 /// How much stands around each lent slice that neither side may touch.
 const GUARD: usize = 8;
@@ -75,6 +78,13 @@ pub struct Counts {
     pub several_frames: u64,
     pub answered: u64,
     pub stopped: u64,
+    pub banked_calls: u64,
+    pub banked_answered: u64,
+    pub banked_refused: u64,
+    /// Calls and streams after which the bank is another.
+    pub batches_kept: u64,
+    pub banked_several_frames: u64,
+    pub stored_banks: u64,
     pub boards: u64,
     pub boards_answered: u64,
     pub boards_refused: u64,
@@ -89,18 +99,22 @@ pub struct Counts {
     pub recordings: u64,
     pub fits: u64,
     pub refuted: u64,
+    pub not_judged: u64,
     pub refused: u64,
     pub known: u64,
     pub learnt: u64,
     pub explained: u64,
-    /// By reason: a reply to silence, no reply, no record, a field.
-    pub reasons: [u64; 4],
+    /// By reason: a reply to silence, no reply, no record, a field, a kept batch.
+    pub reasons: [u64; 5],
 }
 
 impl Counts {
     pub fn comparisons(&self) -> u64 {
         self.calls
             + self.several_frames
+            + self.banked_calls
+            + self.banked_several_frames
+            + self.stored_banks
             + self.boards
             + self.drum_changes
             + self.panel_events
@@ -119,15 +133,22 @@ impl fmt::Display for Counts {
         write!(
             formatter,
             "calls {}, several frames {} (answered {}, stopped {}), \
-             board calls {} (answered {}, refused {}), \
+             banked calls {} (answered {}, refused {}), banked several frames {}, batches kept {}, \
+             stored banks {}, board calls {} (answered {}, refused {}), \
              drum change calls {} (ended {}, stopped {}, refused {}), panel events {}, \
              stored forms {}, host side {}, enumerated {}, \
-             recordings {} (fits {}, refuted {}, refused {}), known {}, learnt {}, \
-             explained {} (reply to silence {}, no reply {}, no record {}, field {})",
+             recordings {} (fits {}, refuted {}, not judged {}, refused {}), known {}, learnt {}, \
+             explained {} (reply to silence {}, no reply {}, no record {}, field {}, kept batch {})",
             self.calls,
             self.several_frames,
             self.answered,
             self.stopped,
+            self.banked_calls,
+            self.banked_answered,
+            self.banked_refused,
+            self.banked_several_frames,
+            self.batches_kept,
+            self.stored_banks,
             self.boards,
             self.boards_answered,
             self.boards_refused,
@@ -142,6 +163,7 @@ impl fmt::Display for Counts {
             self.recordings,
             self.fits,
             self.refuted,
+            self.not_judged,
             self.refused,
             self.known,
             self.learnt,
@@ -149,7 +171,8 @@ impl fmt::Display for Counts {
             self.reasons[0],
             self.reasons[1],
             self.reasons[2],
-            self.reasons[3]
+            self.reasons[3],
+            self.reasons[4]
         )
     }
 }
@@ -376,8 +399,8 @@ impl Comparison {
         }
     }
 
-    /// Lends each request of a drum change to a call, and the reply to the change: it has to come to
-    /// the answer and the stored record that are expected.
+    /// Lends each request of a drum change to a call, with a bank and without, and the reply to the change:
+    /// it has to come to the answer and the stored record that are expected, with the bank as it was.
     pub fn drum_change_and_calls(
         &mut self,
         picks: Picks,
@@ -385,17 +408,18 @@ impl Comparison {
         expected: (u32, &[u8]),
     ) -> Result<(), Difference> {
         let room = [0; LEAST_BUFFER];
-        let mut record = stored.to_vec();
+        let mut unit = Unit::without_batches(stored);
         let (mut answer, mut state, mut request) =
             self.drum_begin(picks, &[0; STATE_LENGTH], &room)?;
         while (1..100).contains(&answer) {
             let asked = &request[..answer as usize];
-            let (replied, after, laid) = self.call(0, &record, asked, &room)?;
+            let (replied, after, laid) = self.banked_and_call(0, &unit, asked, &room)?;
             let reply = reply_laid(replied, &laid);
             (answer, state, request) = self.drum_take(&state, reply, &room)?;
-            record = after;
+            unit = after;
         }
-        if (answer, &record[..]) == expected {
+        let same = unit == Unit::without_batches(expected.1);
+        if answer == expected.0 && same {
             return Ok(());
         }
         Err(Difference(format!(
@@ -403,7 +427,7 @@ impl Comparison {
             hexadecimal(stored),
             expected.0,
             hexadecimal(expected.1),
-            hexadecimal(&record)
+            hexadecimal(&unit.stored)
         )))
     }
 
@@ -509,6 +533,7 @@ impl Comparison {
             match first.0 {
                 0 => self.counts.fits += 1,
                 1 => self.counts.refuted += 1,
+                2 => self.counts.not_judged += 1,
                 _ => self.counts.refused += 1,
             }
         }

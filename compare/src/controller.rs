@@ -1,6 +1,7 @@
 //! One call of the controller, the record by value.
 
 use crate::alarms;
+use crate::bank::{Bank, Batch};
 use crate::command::{self, Command, Named};
 use crate::fault::Fault;
 use crate::frame::{self, Kind, LEAST_BUFFER};
@@ -23,6 +24,8 @@ pub enum Request {
     Silent(u8),
     /// NO00, 01, 08, 04, 30 or 06, with the code of the request.
     Refused(u8, [u8; 2]),
+    /// RT R NNN. Where there is no bank it is NO01.
+    KeptBatch(usize),
     Asked(Command),
 }
 
@@ -92,6 +95,9 @@ pub fn understand(address: u8, kind: Kind, request: &[u8], fault: Fault) -> Requ
     }
     if !own {
         return Request::Silent(8);
+    }
+    if let Some(number) = command::kept_batch(&text[2..], fault) {
+        return Request::KeptBatch(number);
     }
     match command::parse(&text[2..], fault) {
         Ok(command) => Request::Asked(command),
@@ -221,17 +227,99 @@ fn status_codes(record: &Record, fault: Fault) -> [(&'static [u8; 3], bool); 9] 
 }
 
 /// Has a command take effect, or refuses it; answers the reply's text.
-fn carry_out(record: &mut Record, command: Command, fault: Fault) -> ReplyText {
+fn carry_out(
+    record: &mut Record,
+    bank: Option<&mut Bank>,
+    command: Command,
+    fault: Fault,
+) -> ReplyText {
     match answer(record, command, fault) {
         Ok(text) => {
+            if let Some(bank) = bank {
+                keep_batch(bank, record, command, fault);
+            }
             take_effect(record, command, fault);
             text
         }
         Err(number) => {
             record.changed |= fault == Fault::RecordChangedOnRefusal && number == 5;
+            if let Some(bank) = bank {
+                if command == Command::End && keeps_refused(number, fault) {
+                    bank.keep(Batch::of(record, fault), fault);
+                }
+            }
             refusal(record.address, number)
         }
     }
+}
+
+/// What a command that is accepted does to the bank: ET keeps the batch as the record still holds it.
+fn keep_batch(bank: &mut Bank, record: &Record, command: Command, fault: Fault) {
+    let kept = match (command, record.phase) {
+        (Command::End, Phase::Stopped) => fault != Fault::StoppedBatchLost,
+        (Command::End, Phase::Done) => fault != Fault::DoneBatchLost,
+        (Command::End, _) => fault == Fault::SetBatchKept,
+        (Command::SetBatch(_), Phase::Done) => fault == Fault::NextBatchKeeps,
+        (Command::WriteValue(Named { place, .. }, value), _)
+            if fault == Fault::FactorAfterwards && place == factor_place(record.recipe) =>
+        {
+            bank.change_newest_factor(record.recipe, value);
+            false
+        }
+        _ => false,
+    };
+    if kept {
+        bank.keep(Batch::of(record, fault), fault);
+    }
+}
+
+/// Whether a planted fault keeps a batch though ET is refused by this number.
+fn keeps_refused(number: u8, fault: Fault) -> bool {
+    match fault {
+        Fault::KeptThoughKeypad => number == 2,
+        Fault::KeptThoughPhase => number == 5,
+        _ => false,
+    }
+}
+
+/// The text of the reply to RT R NNN: the raw volume of that batch, or NO03; NO01 without a bank.
+fn kept_batch(record: &Record, bank: Option<&Bank>, number: usize, fault: Fault) -> ReplyText {
+    let Some(bank) = bank else {
+        let number = if fault == Fault::NoBankTakenForEmpty {
+            3
+        } else {
+            1
+        };
+        return refusal(record.address, number);
+    };
+    match fault {
+        Fault::KeptBatchNeedsKeypadOff if record.keypad => return refusal(record.address, 2),
+        Fault::KeptBatchNeedsPhase if record.phase == Phase::Running => {
+            return refusal(record.address, 5)
+        }
+        _ => {}
+    }
+    let Some(batch) = bank.asked(number, fault) else {
+        let number = if fault == Fault::No01ForNo03 { 1 } else { 3 };
+        return refusal(record.address, number);
+    };
+    let volume = match fault {
+        Fault::PresetShown => batch.preset,
+        Fault::CurrentRawShown => record.raw,
+        _ => batch.raw,
+    };
+    let mut text = ReplyText::new(record.address);
+    text.word(b"RT R ");
+    if fault == Fault::NumberBeforeVolume {
+        text.number(number as u32, 3);
+        text.word(b" ");
+        text.number(volume, 8);
+    } else {
+        text.number(volume, 8);
+        text.word(b" ");
+        text.number(number as u32, 3);
+    }
+    text
 }
 
 /// The text of the reply to a command that is accepted, or the number of NO02, NO07, NO05 or NO09.
@@ -369,9 +457,10 @@ fn early_refusal(record: &Record, number: u8, code: [u8; 2], fault: Fault) -> u8
 }
 
 /// Answers a request that was understood, the reply laid into a buffer that has room for it, and
-/// changes the record as it asks.
+/// changes the record as it asks, and the bank, if there is one.
 pub fn respond(
     record: &mut Record,
+    bank: Option<&mut Bank>,
     kind: Kind,
     request: Request,
     buffer: &mut [u8],
@@ -383,7 +472,8 @@ pub fn respond(
             let number = early_refusal(record, number, code, fault);
             refusal(record.address, number)
         }
-        Request::Asked(command) => carry_out(record, command, fault),
+        Request::KeptBatch(number) => kept_batch(record, bank.as_deref(), number, fault),
+        Request::Asked(command) => carry_out(record, bank, command, fault),
     };
     let length = frame::lay(kind, text.bytes(), buffer);
     if fault == Fault::ReplyTailOverwritten {
@@ -394,7 +484,34 @@ pub fn respond(
 
 /// One call: the outcome, the record after it, and the reply in the lent buffer.
 pub fn call(
+    record: Record,
+    kind: Kind,
+    request: &[u8],
+    buffer: &mut [u8],
+    fault: Fault,
+) -> (Outcome, Record) {
+    call_with(record, None, kind, request, buffer, fault)
+}
+
+/// One call with a bank beside the record, which is changed in its place.
+pub fn banked_call(
+    record: Record,
+    bank: &mut Bank,
+    kind: Kind,
+    request: &[u8],
+    buffer: &mut [u8],
+    fault: Fault,
+) -> (Outcome, Record) {
+    if !bank.is_valid() {
+        return (Outcome::Silence(1), record);
+    }
+    call_with(record, Some(bank), kind, request, buffer, fault)
+}
+
+/// One call, with a good bank or without one.
+fn call_with(
     mut record: Record,
+    bank: Option<&mut Bank>,
     kind: Kind,
     request: &[u8],
     buffer: &mut [u8],
@@ -410,6 +527,6 @@ pub fn call(
     if buffer.len() < LEAST_BUFFER {
         return (Outcome::Silence(2), record);
     }
-    let outcome = respond(&mut record, kind, understood, buffer, fault);
+    let outcome = respond(&mut record, bank, kind, understood, buffer, fault);
     (outcome, record)
 }

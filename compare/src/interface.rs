@@ -1,12 +1,13 @@
 //! This program behind the byte interface of the proved library, so that both are lent the same
 //! bytes.
 
+use crate::bank::{Bank, BANK_LENGTH};
 use crate::board;
 use crate::controller::{self, Outcome};
 use crate::drum::{self, Answer, Picks};
 use crate::fault::Fault;
 use crate::fields::FIELDS;
-use crate::frame::{self, HostRefusal, Kind};
+use crate::frame::{self, HostRefusal, Kind, LEAST_BUFFER};
 use crate::judge::{self, Judgement};
 use crate::known::{Following, Reason, Told, Untold};
 use crate::numbers::{Numbers, Sets};
@@ -17,6 +18,7 @@ use crate::several::{self, Report};
 use crate::stored::{self, STORED_LENGTH};
 
 const UNKNOWN_KIND_OR_EVENT: u32 = 300;
+const BAD_BANK: u32 = 207;
 
 fn kind_of(number: u8) -> Option<Kind> {
     match number {
@@ -64,6 +66,123 @@ pub fn several(stored: &mut [u8], bytes: &[u8], reply: &mut [u8], fault: Fault) 
     match several::answer_all(&mut record, bytes, reply, fault) {
         Some(report) => {
             stored.copy_from_slice(&stored::form(&record));
+            (0, report)
+        }
+        None => (101, nothing_taken(bytes, fault)),
+    }
+}
+
+/// The bank that lent bytes begin with, which have room for the longest; or K7.
+fn lent_bank(lent: &[u8], fault: Fault) -> Result<Bank, u32> {
+    let room = match fault {
+        Fault::LongBankBufferTaken => lent.len() >= BANK_LENGTH,
+        Fault::ShortBankBufferTaken => lent.len() <= BANK_LENGTH,
+        _ => lent.len() == BANK_LENGTH,
+    };
+    let length = match lent {
+        [_, high, low, ..] => usize::from(*high) << 8 | usize::from(*low),
+        _ => 0,
+    };
+    let stored = lent.get(..length).filter(|_| room).unwrap_or_default();
+    match Bank::read(stored, fault) {
+        (None, bank) => Ok(bank),
+        (Some(number), _) => Err(200 + u32::from(number)),
+    }
+}
+
+/// Puts a bank in the place of the one that was lent, which has as many batches at most; what stands behind
+/// it stays.
+fn store_bank(bank: &Bank, lent: &mut [u8], fault: Fault) {
+    let form = bank.form(fault);
+    // Less room only by a planted fault.
+    let length = form.len().min(lent.len());
+    let (place, behind) = lent.split_at_mut(length);
+    place.copy_from_slice(&form[..length]);
+    if fault == Fault::BehindBankOverwritten {
+        behind.fill(0);
+    }
+}
+
+/// The record and the bank that are lent; or K1 to K4 or K6 for the record, then K7.
+fn lent_unit(stored: &[u8], bank: &[u8], fault: Fault) -> Result<(Record, Bank), u32> {
+    let record = lent_record(stored, fault);
+    let bank = lent_bank(bank, fault);
+    let bank_first = match record {
+        Err(206) => fault == Fault::BankBeforeRoom,
+        _ => fault == Fault::BankBeforeRecord,
+    };
+    match (bank_first, &bank) {
+        (true, Err(answer)) => Err(*answer),
+        _ => Ok((record?, bank?)),
+    }
+}
+
+pub fn banked_call(
+    kind: u8,
+    stored: &mut [u8],
+    bank: &mut [u8],
+    request: &[u8],
+    reply: &mut [u8],
+    fault: Fault,
+) -> u32 {
+    let Some(known_kind) = kind_of(kind) else {
+        return match lent_bank(bank, fault) {
+            Err(answer) if fault == Fault::BankBeforeKind => answer,
+            _ => UNKNOWN_KIND_OR_EVENT,
+        };
+    };
+    let (record, mut kept) = match lent_unit(stored, bank, fault) {
+        Ok(unit) => unit,
+        Err(BAD_BANK) => return misrefused_bank(kind, stored, request, reply, fault),
+        Err(answer) => return answer,
+    };
+    match controller::banked_call(record, &mut kept, known_kind, request, reply, fault) {
+        (Outcome::Silence(number), _) => 100 + u32::from(number),
+        (Outcome::Reply(length), after) => {
+            stored.copy_from_slice(&stored::form(&after));
+            store_bank(&kept, bank, fault);
+            length as u32
+        }
+    }
+}
+
+/// K7, or what planted faults make of a call whose bank is refused by it.
+#[cold]
+fn misrefused_bank(
+    kind: u8,
+    stored: &mut [u8],
+    request: &[u8],
+    reply: &mut [u8],
+    fault: Fault,
+) -> u32 {
+    let needs_bank = |part: &[u8]| part == b"ET" || part == b"RT";
+    match fault {
+        Fault::BufferBeforeBank if reply.len() < LEAST_BUFFER => 102,
+        Fault::UnneededBankUntested if !request.windows(2).any(needs_bank) => {
+            call(kind, stored, request, reply, fault)
+        }
+        _ => BAD_BANK,
+    }
+}
+
+/// The answer, and what is reported beside it.
+pub fn banked_several(
+    stored: &mut [u8],
+    bank: &mut [u8],
+    bytes: &[u8],
+    reply: &mut [u8],
+    fault: Fault,
+) -> (u32, Report) {
+    let (mut record, mut kept) = match lent_unit(stored, bank, fault) {
+        Ok(unit) => unit,
+        Err(answer) => return (answer, nothing_taken(bytes, fault)),
+    };
+    match several::answer_all_banked(&mut record, &mut kept, bytes, reply, fault) {
+        Some(report) => {
+            stored.copy_from_slice(&stored::form(&record));
+            if fault != Fault::SeveralForgetBank {
+                store_bank(&kept, bank, fault);
+            }
             (0, report)
         }
         None => (101, nothing_taken(bytes, fault)),
@@ -193,6 +312,22 @@ pub fn stored(stored: &[u8], out: &mut [u8], fault: Fault) -> u32 {
     }
 }
 
+pub fn bank(bank: &[u8], out: &mut [u8], fault: Fault) -> u32 {
+    let (refusal, read) = Bank::read(bank, fault);
+    let answer = refusal.map_or(0, |number| 200 + u32::from(number));
+    match (fault, refusal) {
+        (Fault::RefusedBankNotWritten, Some(_)) => return answer,
+        (Fault::BankRefusedBeforeRoom, Some(_)) if out.len() < read.form(fault).len() => {
+            return answer
+        }
+        _ => {}
+    }
+    match read.write(out, fault) {
+        Ok(()) => answer,
+        Err(number) => 200 + u32::from(number),
+    }
+}
+
 fn host_answer(result: Result<usize, HostRefusal>) -> u32 {
     match result {
         Ok(length) => length as u32,
@@ -220,12 +355,13 @@ pub fn judge(recording: &[u8], fault: Fault) -> (u32, usize, usize) {
     match judge::judge(recording, fault) {
         Judgement::Fits { count } => (0, 0, count),
         Judgement::Refuted { place, count } => (1, place, count),
+        Judgement::NotJudged { place, count } => (NOT_JUDGED, place, count),
         Judgement::Refused(number) => (500 + u32::from(number), 0, 0),
     }
 }
 
-/// What is told of a refuted recording beside the answer: the exchange, the number that goes with the
-/// reason, and a field's sets as the header writes them.
+/// What is told of a recording that is refuted, or not judged, beside the answer: the exchange, the number
+/// that goes with the reason, and a field's sets as the header writes them.
 #[derive(Clone, Copy, PartialEq, Eq, Debug, Default)]
 pub struct Why {
     pub place: usize,
@@ -235,6 +371,7 @@ pub struct Why {
 }
 
 const SHORT_BUFFER: u32 = 401;
+const NOT_JUDGED: u32 = 2;
 
 /// The answer and the place, where nothing is told.
 pub fn known_answer(untold: Untold) -> (u32, usize) {
@@ -242,6 +379,7 @@ pub fn known_answer(untold: Untold) -> (u32, usize) {
         Untold::ShortBuffer => (SHORT_BUFFER, 0),
         Untold::Refused(number) => (500 + u32::from(number), 0),
         Untold::Refuted(place) => (1, place),
+        Untold::NotJudged(place) => (NOT_JUDGED, place),
     }
 }
 
@@ -265,17 +403,27 @@ pub fn learn(address: u8, access: u8, exchange: Exchange, sets: &mut [u32], faul
     let Some(mut following) = Following::resume(address, access, &before, fault) else {
         return 1;
     };
-    if following.learn(exchange, fault).is_err() {
-        if fault == Fault::RefutationEmptiesSets {
-            lent.fill(0);
-        }
-        return 1;
+    let learnt = following.learn(exchange, fault);
+    let emptied = match learnt {
+        Ok(()) => false,
+        Err(Reason::KeptBatch) => fault == Fault::KeptBatchEmptiesSets,
+        Err(_) => fault == Fault::RefutationEmptiesSets,
+    };
+    if emptied {
+        lent.fill(0);
     }
-    write_sets(following.sets(), lent);
-    0
+    match learnt {
+        Ok(()) => {
+            write_sets(following.sets(), lent);
+            0
+        }
+        Err(Reason::KeptBatch) => NOT_JUDGED,
+        Err(_) => 1,
+    }
 }
 
-/// Why a recording is refuted: the answer, the place, the number that goes with it, and the field's sets.
+/// Why a recording is refuted, or not judged: the answer, the place, the number that goes with it, and the
+/// field's sets.
 pub fn why(told: &Told, fault: Fault) -> (u32, usize, u32, Option<(Numbers, Numbers)>) {
     match told.why(fault) {
         Err(number) => (500 + u32::from(number), 0, 0, None),
@@ -289,6 +437,7 @@ pub fn why(told: &Told, fault: Fault) -> (u32, usize, u32, Option<(Numbers, Numb
                 held,
                 needed,
             } => (4, place, field as u32, Some((held, needed))),
+            Reason::KeptBatch => (5, place, 0, None),
         },
     }
 }
@@ -307,6 +456,8 @@ pub fn exchange(recording: &[u8], at: usize, fault: Fault) -> (u32, Spans) {
 mod tests {
     use super::*;
     use crate::alarms;
+    use crate::bank::Batch;
+    use crate::record::Phase;
 
     /// The answer to a call with EA over stored bytes, which come back with it.
     fn enquire(kind: u8, stored: &[u8], room: usize) -> (u32, Vec<u8>) {
@@ -445,6 +596,154 @@ mod tests {
         assert_eq!(board_refused(1, &forms(1..=16), 63), 102);
         assert_eq!(board_refused(0, &forms(1..=16), 64), 104);
         assert_eq!(board_refused(1, &forms(2..=17), 64), 108);
+    }
+
+    /// A bank of so many batches as it is lent, other bytes behind it.
+    fn lent(count: u16) -> Vec<u8> {
+        let batch = |number| Batch {
+            number,
+            recipe: 1,
+            factor: 8_000,
+            raw: 7,
+            preset: 9,
+        };
+        let mut lent = Bank::with((1..=count).map(batch)).form(Fault::None);
+        lent.resize(BANK_LENGTH, 0xEE);
+        lent
+    }
+
+    /// ET from Done over a stored record and a bank: the answer and the bank after it. Where it is no
+    /// length, nothing may change.
+    fn ended(kind: u8, stored: &[u8], bank: &[u8], room: usize) -> (u32, Vec<u8>) {
+        let (mut record, mut lent, mut reply) = (stored.to_vec(), bank.to_vec(), vec![9; room]);
+        let request = b"*01ET\r\n";
+        let fault = Fault::None;
+        let answer = banked_call(kind, &mut record, &mut lent, request, &mut reply, fault);
+        if answer >= 100 {
+            assert_eq!((&record[..], &lent[..]), (stored, bank));
+            assert_eq!(reply, vec![9; room]);
+        }
+        (answer, lent)
+    }
+
+    fn done() -> Vec<u8> {
+        let record = Record {
+            phase: Phase::Done,
+            ..Record::low()
+        };
+        stored::form(&record).to_vec()
+    }
+
+    /// The bank grows in its place, and what stands behind it stays.
+    #[test]
+    fn a_bank_grows_in_place() {
+        let batch = [0, 1, 1, 0x1F, 0x40, 0, 0, 0, 0, 0, 0, 0];
+        for (count, length) in [(0, 15), (1, 27), (99, 1203)] {
+            let before = lent(count);
+            let (answer, after) = ended(1, &done(), &before, 64);
+            assert_eq!(answer, 7);
+            assert_eq!(after[1..3], (length as u16).to_be_bytes());
+            assert_eq!(after[3..length - 12], before[3..length - 12]);
+            assert_eq!(after[length - 12..length], batch);
+            assert_eq!(after[length..], before[length..]);
+        }
+        let before = lent(100);
+        let (answer, after) = ended(1, &done(), &before, 64);
+        assert_eq!((answer, &after[..3]), (7, &before[..3]));
+        assert_eq!(after[3..1191], before[15..]);
+        assert_eq!(after[1191..], batch);
+    }
+
+    /// Each refusal with what comes behind it.
+    #[test]
+    fn banked_units_are_refused_in_order() {
+        let changed = |mut bytes: Vec<u8>, place: usize, byte: u8| {
+            bytes[place] = byte;
+            bytes
+        };
+        let bad = changed(lent(2), 0, 2);
+        let old = stored::old_form(&Record::low());
+        assert_eq!(ended(2, &[], &bad, 63).0, 300);
+        for (answer, stored) in [
+            (201, vec![]),
+            (202, changed(done(), 0, 1)),
+            (203, changed(done(), 2, 0)),
+            (204, changed(done(), 7, 9)),
+            (206, old.to_vec()),
+        ] {
+            assert_eq!(ended(1, &stored, &bad, 63).0, answer);
+        }
+        let of_each_reason = [
+            bad,
+            vec![],
+            lent(0)[..3].to_vec(),
+            lent(100)[..1202].to_vec(),
+            [lent(100), vec![0]].concat(),
+            changed(lent(2), 2, 28),
+            changed(lent(2), 1, 4),
+            changed(lent(2), 5, 0),
+            changed(lent(2), 17, 9),
+        ];
+        for bank in of_each_reason {
+            assert_eq!(ended(1, &done(), &bank, 63).0, 207);
+        }
+        assert_eq!(ended(1, &done(), &lent(2), 63).0, 102);
+        assert_eq!(ended(0, &done(), &lent(2), 64).0, 103);
+        assert_eq!(ended(1, &done(), &lent(2), 64).0, 7);
+    }
+
+    /// What is refused reports nothing and leaves every byte.
+    #[test]
+    fn several_frames_to_a_banked_unit() {
+        let stream = [&b"\x0201ET\x03\x13\x7F"[..], b"\x0201RT R 001\x03\x67\x7F"].concat();
+        let over = |stored: &[u8], bank: &[u8], room: usize| {
+            let (mut record, mut lent, mut reply) = (stored.to_vec(), bank.to_vec(), vec![9; room]);
+            let fault = Fault::None;
+            let answered = banked_several(&mut record, &mut lent, &stream, &mut reply, fault);
+            (answered, lent, reply)
+        };
+        let report = |taken, answered, written| Report {
+            taken,
+            answered,
+            written,
+        };
+        let (answered, bank, reply) = over(&done(), &lent(1), 72);
+        assert_eq!(answered, (0, report(22, 2, 31)));
+        assert_eq!(reply[8..24], *b"\x0201RT R 00000000");
+        assert_eq!(bank, ended(1, &done(), &lent(1), 64).1);
+        let (answered, bank, _) = over(&done(), &lent(1), 71);
+        assert_eq!(answered, (0, report(8, 1, 8)));
+        assert_eq!(bank, ended(1, &done(), &lent(1), 64).1);
+        let mut bad = lent(1);
+        bad[0] = 0;
+        for (answer, stored) in [(207, &done()[..]), (201, &[])] {
+            let refused = ((answer, Report::default()), bad.clone(), vec![9; 72]);
+            assert_eq!(over(stored, &bad, 72), refused);
+        }
+    }
+
+    /// A stored bank needs the room of what is written, the empty one beside K7.
+    #[test]
+    fn stored_banks() {
+        let written = |stored: &[u8], room: usize| {
+            let mut out = vec![9; room];
+            let answer = bank(stored, &mut out, Fault::None);
+            (answer, out)
+        };
+        let form = lent(2)[..27].to_vec();
+        assert_eq!(written(&form, 26), (206, vec![9; 26]));
+        assert_eq!(written(&form, 27), (0, form.clone()));
+        assert_eq!(written(&form, 29), (0, [&form[..], &[9, 9]].concat()));
+        for bad in [&form[..26], &form[1..], &[], &lent(2)] {
+            assert_eq!(written(bad, 2), (206, vec![9; 2]));
+            assert_eq!(written(bad, 3), (207, vec![1, 0, 3]));
+            assert_eq!(written(bad, 5), (207, vec![1, 0, 3, 9, 9]));
+        }
+        assert_eq!(written(&[1, 0, 3], 3), (0, vec![1, 0, 3]));
+        assert_eq!(written(&[1, 0, 3], 2), (206, vec![9; 2]));
+        let full = lent(100);
+        assert_eq!(written(&full, 1203), (0, full.clone()));
+        assert_eq!(written(&full, 1202), (206, vec![9; 1202]));
     }
 
     #[test]

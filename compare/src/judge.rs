@@ -9,6 +9,7 @@
 //! a reply shows all, or only whether any is on, so each candidate keeps which may be on.
 
 use crate::alarms;
+use crate::bank::MOST_BATCHES;
 use crate::command::{Command, Named};
 use crate::controller::{self, Request};
 use crate::fault::Fault;
@@ -19,13 +20,23 @@ use crate::parameters::{
     another_value, factor_place, is_factor, value_in_range, PARAMETERS, VALUE_RANGES,
 };
 use crate::record::{Phase, Record, HIGHEST_LEVEL, HIGHEST_NUMBER, HIGHEST_RAW, RECIPES};
-use crate::recording::{self, Exchange};
+use crate::recording::{self, Exchange, Recording};
 use std::mem;
 
 #[derive(Clone, Copy, PartialEq, Eq, Debug)]
 pub enum Judgement {
-    Fits { count: usize },
-    Refuted { place: usize, count: usize },
+    Fits {
+        count: usize,
+    },
+    Refuted {
+        place: usize,
+        count: usize,
+    },
+    /// From this exchange on.
+    NotJudged {
+        place: usize,
+        count: usize,
+    },
     Refused(u8),
 }
 
@@ -539,6 +550,8 @@ pub enum Heard {
     Told,
     /// It is a write that was accepted.
     Accepted(Command),
+    /// It asks for a kept batch and meets no silence, so nothing is said of it.
+    KeptBatch,
 }
 
 /// The records that are possible, as candidates.
@@ -599,7 +612,22 @@ impl Candidates {
         // A reply is a frame as it should be; no other bytes are one.
         let text = frame::open(Kind::Minicomputer, reply, fault);
         let (command, text) = match (understood, text) {
+            (Request::Silent(_), _)
+                if fault == Fault::SilentKeptBatchStops && names_a_kept_batch(request) =>
+            {
+                return Heard::KeptBatch
+            }
             (Request::Silent(_), _) if reply.is_empty() => return Heard::Nothing,
+            (Request::KeptBatch(number), text) => {
+                match misjudged_kept_batch(self.address, number, text.ok(), fault) {
+                    None => return Heard::KeptBatch,
+                    Some(true) => return Heard::Nothing,
+                    Some(false) => {
+                        self.candidates.clear();
+                        return Heard::Told;
+                    }
+                }
+            }
             (Request::Refused(number, _), Ok(text))
                 if text == controller::refusal(self.address, number).bytes() =>
             {
@@ -674,6 +702,29 @@ impl Candidates {
     }
 }
 
+/// Whether a reply to a request for a kept batch fits, where a planted fault judges that.
+fn misjudged_kept_batch(
+    address: u8,
+    number: usize,
+    reply: Option<&[u8]>,
+    fault: Fault,
+) -> Option<bool> {
+    let is_refused_by = |number| reply == Some(controller::refusal(address, number).bytes());
+    match fault {
+        Fault::KeptBatchPassedOver => Some(true),
+        Fault::KeptBatchTakenForNo01 => Some(is_refused_by(1)),
+        Fault::KeptBatchNeedsReply if reply.is_none() => Some(false),
+        Fault::ZeroJudged if number == 0 => Some(is_refused_by(3)),
+        Fault::PastHundredJudged if number > MOST_BATCHES => Some(is_refused_by(3)),
+        _ => None,
+    }
+}
+
+/// Whether the letters before NNN stand somewhere in a request.
+fn names_a_kept_batch(request: &[u8]) -> bool {
+    request.windows(5).any(|part| part == b"RT R ")
+}
+
 /// Judges a recording.
 pub fn judge(bytes: &[u8], fault: Fault) -> Judgement {
     let recording = match recording::read(bytes, fault) {
@@ -683,16 +734,12 @@ pub fn judge(bytes: &[u8], fault: Fault) -> Judgement {
     let count = recording.exchanges.len();
     let mut candidates = Candidates::every(recording.address, recording.access, fault);
     for (before, &exchange) in recording.exchanges.iter().enumerate() {
-        candidates.hear(exchange, fault);
+        let place = before + 1;
+        if candidates.hear(exchange, fault) == Heard::KeptBatch {
+            return not_judged(place, count, fault);
+        }
         if candidates.is_empty() {
-            let place = before + 1;
-            return Judgement::Refuted {
-                place: place - usize::from(fault == Fault::PlaceFromZero),
-                count: match fault {
-                    Fault::CountUpToRefutation => place,
-                    _ => count,
-                },
-            };
+            return refuted(place, &recording, fault);
         }
         if fault == Fault::FirstExchangeAlone {
             break;
@@ -702,4 +749,46 @@ pub fn judge(bytes: &[u8], fault: Fault) -> Judgement {
         return Judgement::Refused(5);
     }
     Judgement::Fits { count }
+}
+
+fn not_judged(place: usize, count: usize, fault: Fault) -> Judgement {
+    Judgement::NotJudged {
+        place: place - usize::from(fault == Fault::NotJudgedFromZero),
+        count: match fault {
+            Fault::CountUpToKeptBatch => place,
+            _ => count,
+        },
+    }
+}
+
+fn refuted(place: usize, recording: &Recording, fault: Fault) -> Judgement {
+    let count = recording.exchanges.len();
+    let mut judgement = Judgement::Refuted { place, count };
+    if fault != Fault::None {
+        judgement = misrefuted(place, recording, fault).unwrap_or(judgement);
+    }
+    judgement
+}
+
+/// What a planted fault makes of a refutation, if anything.
+#[cold]
+fn misrefuted(place: usize, recording: &Recording, fault: Fault) -> Option<Judgement> {
+    let count = recording.exchanges.len();
+    let asks = |exchange: &Exchange| {
+        let kind = Kind::Minicomputer;
+        let asked = controller::understand(recording.address, kind, exchange.request, fault);
+        matches!(asked, Request::KeptBatch(_))
+    };
+    let judged_behind = recording.exchanges[place..].iter().position(asks);
+    let refuted = |place, count| Some(Judgement::Refuted { place, count });
+    match (fault, judged_behind) {
+        (Fault::PlaceFromZero, _) => refuted(place - 1, count),
+        (Fault::CountUpToRefutation, _) => refuted(place, place),
+        (Fault::UnjudgedNotCounted, Some(further)) => refuted(place, place + further),
+        (Fault::KeptBatchBeforeRefutation, Some(further)) => {
+            Some(not_judged(place + further + 1, count, fault))
+        }
+        (Fault::CutBehindKeptBatch, _) if recording.cut => Some(Judgement::Refused(5)),
+        _ => None,
+    }
 }

@@ -5,15 +5,18 @@
 //! ones, of which the numbers in the recording (for the batch number, also as they stood some batches
 //! before; for a value, those shown and those written) and one other are taken; and for the alarms, of
 //! which those that the recording shows are taken, each also as it may have been before AR, and one of
-//! each sort.
+//! each sort. Where a kept batch is asked for, the exchanges before that are replayed alone. The
+//! controller has a bank, and any is as good as an empty one: nothing that is replayed asks for what it
+//! keeps.
 
 use crate::alarms;
+use crate::bank::Bank;
 use crate::command::{Command, Named};
 use crate::controller::{self, Outcome, Request};
 use crate::fault::{Fault, PLANTED};
 use crate::frame::{self, Kind};
 use crate::generate::recordings::{self, Exchanges};
-use crate::generate::{records, requests};
+use crate::generate::{kept_batches, records, requests};
 use crate::judge::{judge, Judgement};
 use crate::parameters::{factor_place, is_factor, PARAMETERS, VALUE_RANGES};
 use crate::random::Random;
@@ -23,8 +26,9 @@ use crate::recording::{self, Exchange};
 /// The record after an exchange, if the exchange agrees.
 pub fn after(record: Record, (request, reply): (&[u8], &[u8])) -> Option<Record> {
     let mut buffer = [0; 64];
-    let (outcome, after) = controller::call(
+    let (outcome, after) = controller::banked_call(
         record,
+        &mut Bank::default(),
         Kind::Minicomputer,
         request,
         &mut buffer,
@@ -35,6 +39,20 @@ pub fn after(record: Record, (request, reply): (&[u8], &[u8])) -> Option<Record>
         Outcome::Reply(length) => length,
     };
     (buffer[..length] == *reply).then_some(after)
+}
+
+/// The place of the first exchange, from 0, whose request is a good frame to this address with RT R and
+/// three digits.
+pub fn kept_batch_asked(address: u8, exchanges: &[Exchange]) -> Option<usize> {
+    let asking = format!("{address:02}RT R ");
+    let asks = |exchange: &Exchange| {
+        let text = frame::open(Kind::Minicomputer, exchange.request, Fault::None);
+        let number = text
+            .ok()
+            .and_then(|text| text.strip_prefix(asking.as_bytes()));
+        number.is_some_and(|number| number.len() == 3 && number.iter().all(u8::is_ascii_digit))
+    };
+    exchanges.iter().position(asks)
 }
 
 /// How many exchanges agree from this record, before the first that does not.
@@ -264,34 +282,42 @@ fn by_definition(bytes: &[u8]) -> Option<Judgement> {
         Err(number) => return Some(Judgement::Refused(number)),
     };
     let count = recording.exchanges.len();
-    let best = starting_records(recording.address, recording.access, &recording.exchanges)?
+    let asked = kept_batch_asked(recording.address, &recording.exchanges);
+    let judged = &recording.exchanges[..asked.unwrap_or(count)];
+    let best = starting_records(recording.address, recording.access, judged)?
         .into_iter()
-        .map(|record| agreeing(record, &recording.exchanges))
+        .map(|record| agreeing(record, judged))
         .max()?;
-    Some(if best == count {
-        Judgement::Fits { count: count }
+    let place = best + 1;
+    Some(if best < judged.len() {
+        Judgement::Refuted { place, count }
+    } else if asked.is_some() {
+        Judgement::NotJudged { place, count }
     } else {
-        Judgement::Refuted {
-            place: best + 1,
-            count: count,
-        }
+        Judgement::Fits { count }
     })
 }
 
-/// A recording of up to so many commands, or of some in an order that tells.
+/// A recording of up to so many commands, or of some in an order that tells; in some of them kept batches
+/// are asked for.
 pub fn telling_recording(random: &mut Random, longest: u32) -> Vec<u8> {
-    if random.percent(30) {
+    let bytes = if random.percent(30) {
         recordings::ordered(random)
     } else {
         recordings::adversarial(random, longest)
+    };
+    if random.percent(25) {
+        kept_batches::with_kept_batches(random, bytes)
+    } else {
+        bytes
     }
 }
 
-/// Judges random recordings both ways; answers how many fit and how many were refuted.
-fn compare(seed: u64, wanted: usize, longest: u32) -> (usize, usize) {
+/// Judges random recordings both ways; answers how many fit, were refuted and were not judged.
+fn compare(seed: u64, wanted: usize, longest: u32) -> (usize, usize, usize) {
     let mut random = Random::new(seed);
-    let (mut fits, mut refuted) = (0, 0);
-    while fits + refuted < wanted {
+    let (mut fits, mut refuted, mut not_judged) = (0, 0, 0);
+    while fits + refuted + not_judged < wanted {
         let bytes = telling_recording(&mut random, longest);
         let Some(expected) = by_definition(&bytes) else {
             continue;
@@ -300,22 +326,31 @@ fn compare(seed: u64, wanted: usize, longest: u32) -> (usize, usize) {
         match expected {
             Judgement::Fits { .. } => fits += 1,
             Judgement::Refuted { .. } => refuted += 1,
+            Judgement::NotJudged { .. } => not_judged += 1,
             Judgement::Refused(_) => panic!("the form is right"),
         }
     }
-    (fits, refuted)
+    (fits, refuted, not_judged)
 }
 
 #[test]
 fn short_recordings() {
-    let (fits, refuted) = compare(1, 1_500, 5);
-    assert!(fits > 100 && refuted > 100, "{fits} fit, {refuted} refuted");
+    let (fits, refuted, not_judged) = compare(1, 1_500, 5);
+    let enough = fits > 100 && refuted > 100 && not_judged > 100;
+    assert!(
+        enough,
+        "{fits} fit, {refuted} refuted, {not_judged} not judged"
+    );
 }
 
 #[test]
 fn longer_recordings() {
-    let (fits, refuted) = compare(2, 600, 25);
-    assert!(fits > 50 && refuted > 50, "{fits} fit, {refuted} refuted");
+    let (fits, refuted, not_judged) = compare(2, 600, 25);
+    let enough = fits > 50 && refuted > 50 && not_judged > 30;
+    assert!(
+        enough,
+        "{fits} fit, {refuted} refuted, {not_judged} not judged"
+    );
 }
 
 /// Judges every sequence of up to so many of these exchanges both ways, as long as it fits; answers how
@@ -409,11 +444,10 @@ fn many_recordings() {
 /// The comparison above has power: it notices each planted fault that is the judge's alone.
 #[test]
 fn faults_of_the_judge_are_noticed() {
-    let first = PLANTED
-        .iter()
-        .position(|&(fault, _)| fault == Fault::CountUpToRefutation)
-        .unwrap();
-    for &(fault, name) in &PLANTED[first..] {
+    let place = |sought| PLANTED.iter().position(|&(fault, _)| fault == sought);
+    let first = place(Fault::CountUpToRefutation).unwrap();
+    let last = place(Fault::UnjudgedNotCounted).unwrap();
+    for &(fault, name) in &PLANTED[first..=last] {
         let mut random = Random::new(4);
         let noticed = (0..20_000).any(|_| {
             let bytes = telling_recording(&mut random, 8);

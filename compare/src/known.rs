@@ -1,4 +1,5 @@
-//! What a recording tells of the record, exchange by exchange, and why it is refuted, if it is.
+//! What a recording tells of the record, exchange by exchange, and why it is refuted, or not judged to its
+//! end, if it is.
 
 use crate::alarms;
 use crate::controller::{self, Request};
@@ -10,7 +11,7 @@ use crate::numbers::{Numbers, Sets};
 use crate::record::RECIPES;
 use crate::recording::{self, Exchange};
 
-/// Why no controller can have given a reply.
+/// Why no controller can have given a reply; or why nothing is said of it.
 #[derive(Clone, Copy, PartialEq, Eq, Debug)]
 pub enum Reason {
     /// Silence was due, by this number of S3 to S8.
@@ -24,6 +25,8 @@ pub enum Reason {
         held: Numbers,
         needed: Numbers,
     },
+    /// The request asks for a kept batch.
+    KeptBatch,
 }
 
 /// Why nothing is told of the record.
@@ -35,6 +38,8 @@ pub enum Untold {
     Refused(u8),
     /// At this exchange, counted from 1.
     Refuted(usize),
+    /// From this exchange on, counted from 1.
+    NotJudged(usize),
 }
 
 /// A line that is followed: what is possible, what that tells of each field, and since which exchange.
@@ -77,6 +82,9 @@ impl Following {
     /// One exchange more, or why there can be none such; behind that one nothing can be learnt.
     pub fn learn(&mut self, exchange: Exchange, fault: Fault) -> Result<(), Reason> {
         let heard = self.candidates.hear(exchange, fault);
+        if heard == Heard::KeptBatch {
+            return Err(Reason::KeptBatch);
+        }
         if self.candidates.is_empty() {
             return Err(self.reason(exchange, fault));
         }
@@ -206,7 +214,7 @@ fn misread(field: usize, set: Numbers, fault: Fault) -> Numbers {
         (Fault::PhaseSetTooNarrow, Numbers::Few(bits))
             if field == fields::PHASE && bits.count_ones() > 1 =>
         {
-            Numbers::Few(bits & bits - 1)
+            Numbers::Few(bits & (bits - 1))
         }
         (Fault::RecipeSetWithoutLast, Numbers::Few(bits))
             if field == fields::RECIPE && bits.count_ones() > 1 =>
@@ -238,7 +246,8 @@ pub struct Told {
     refused: Option<u8>,
     count: usize,
     stages: Vec<Stage>,
-    refuted: Option<(usize, Reason)>,
+    /// Where it is refuted, or judged no further.
+    ended: Option<(usize, Reason)>,
 }
 
 impl Told {
@@ -251,12 +260,12 @@ impl Told {
             refused: None,
             count: 0,
             stages: vec![],
-            refuted: None,
+            ended: None,
         };
         match recording::read(bytes, reading) {
             Ok(recording) => {
                 told.follow(&recording, fault);
-                if recording.cut && told.refuted.is_none() {
+                if recording.cut && told.ended.is_none() {
                     told.refused = Some(5);
                 }
             }
@@ -271,7 +280,7 @@ impl Told {
         self.keep(&following);
         for (before, &exchange) in recording.exchanges.iter().enumerate() {
             if let Err(reason) = following.learn(exchange, fault) {
-                self.refuted = Some((before + 1, reason));
+                self.ended = Some((before + 1, reason));
                 return;
             }
             self.keep(&following);
@@ -294,9 +303,14 @@ impl Told {
         self.count
     }
 
-    /// The exchange that refutes, counted from 1.
-    pub fn refuted_at(&self) -> Option<usize> {
-        self.refuted.map(|(place, _)| place)
+    /// The exchange that refutes, or at which it is judged no further, counted from 1.
+    pub fn ended_at(&self) -> Option<usize> {
+        self.ended.map(|(place, _)| place)
+    }
+
+    /// Whether that exchange asks for a kept batch.
+    pub fn is_not_judged(&self) -> bool {
+        matches!(self.ended, Some((_, Reason::KeptBatch)))
     }
 
     fn stage(&self, exchanges: usize) -> &Stage {
@@ -320,7 +334,8 @@ impl Told {
             Fault::PastEndTakenForNothing if exchanges > self.count => 0,
             _ => exchanges,
         };
-        match self.refuted {
+        match self.ended {
+            Some((place, Reason::KeptBatch)) => self.known_before(place, asked, fault),
             Some((place, _)) if place <= asked || fault == Fault::LaterRefutationTold => {
                 let from_zero = fault == Fault::KnownRefutedFromZero;
                 Err(Untold::Refuted(place - usize::from(from_zero)))
@@ -329,19 +344,40 @@ impl Told {
         }
     }
 
+    /// What is known after so many exchanges, if these are before the one that asks for a kept batch.
+    fn known_before(&self, place: usize, asked: usize, fault: Fault) -> Result<&Sets, Untold> {
+        let told = match fault {
+            Fault::LaterKeptBatchTold => true,
+            Fault::KnownBehindKeptBatch => false,
+            _ => place <= asked,
+        };
+        match fault {
+            _ if !told => Ok(&self.stage(asked).sets),
+            Fault::KeptBatchToldAsRefuted => Err(Untold::Refuted(place)),
+            _ => Err(Untold::NotJudged(place)),
+        }
+    }
+
     /// For each field the last exchange that changed what it may hold, 0 if none did.
     pub fn since(&self, exchanges: usize) -> &fields::Of<usize> {
         &self.stage(exchanges).since
     }
 
-    /// The refuted exchange and the reason, if it is refuted; or J1 to J5.
+    /// The exchange that is refuted, or not judged, and the reason, if there is one; or J1 to J5.
     pub fn why(&self, fault: Fault) -> Result<Option<(usize, Reason)>, u8> {
         if let Some(number) = self.refused {
             return Err(number);
         }
         let from_zero = usize::from(fault == Fault::WhyFromZero);
-        Ok(self
-            .refuted
-            .map(|(place, reason)| (place - from_zero, reason)))
+        let ended = self
+            .ended
+            .map(|(place, reason)| (place - from_zero, reason));
+        Ok(match (fault, ended) {
+            (Fault::UnjudgedTakenForFits, Some((_, Reason::KeptBatch))) => None,
+            (Fault::UnjudgedTakenForNoRecord, Some((place, Reason::KeptBatch))) => {
+                Some((place, Reason::NoRecord))
+            }
+            _ => ended,
+        })
     }
 }

@@ -5,6 +5,7 @@
 //! these are few, else with those that the recording shows or writes (for the batch number, also as they
 //! stand some batches before and after; for the alarms, also one of each sort and what AR leaves of them)
 //! and with one other. The other fields start with the numbers of some record, one each, since they stay.
+//! Where a kept batch is asked for, the exchanges before that are replayed alone.
 
 use crate::alarms;
 use crate::command::{Command, Named};
@@ -13,9 +14,9 @@ use crate::fault::Fault;
 use crate::fields::{self, Of, Sort, FIELDS};
 use crate::frame::{self, Kind};
 use crate::generate::recordings::{self, Exchanges};
-use crate::generate::{records, refutations};
-use crate::judge_by_definition::{after, shown_number, telling_recording};
-use crate::known::{Reason, Told};
+use crate::generate::{kept_batches, records, refutations};
+use crate::judge_by_definition::{after, kept_batch_asked, shown_number, telling_recording};
+use crate::known::{Reason, Told, Untold};
 use crate::parameters::factor_place;
 use crate::random::Random;
 use crate::record::{Phase, Record, HIGHEST_NUMBER, RECIPES};
@@ -76,16 +77,22 @@ fn reply_text<'reply>(exchange: &Exchange<'reply>) -> Option<&'reply [u8]> {
     text.ok().map(|text| &text[2..])
 }
 
-/// A recording with what its requests ask.
+/// A recording with what its requests ask, up to one that asks for a kept batch.
 struct Asked<'recording> {
     recording: Recording<'recording>,
+    /// Whether there is such a request behind these exchanges.
+    not_judged: bool,
     /// None for a request that meets a silence or a refusal whatever the record.
     commands: Vec<Option<Command>>,
 }
 
 impl<'recording> Asked<'recording> {
     fn of(bytes: &'recording [u8]) -> Asked<'recording> {
-        let recording = recording::read(bytes, Fault::None).expect("the form is right");
+        let mut recording = recording::read(bytes, Fault::None).expect("the form is right");
+        let kept_batch = kept_batch_asked(recording.address, &recording.exchanges);
+        recording
+            .exchanges
+            .truncate(kept_batch.unwrap_or(usize::MAX));
         let understood = |exchange: &Exchange| {
             let kind = Kind::Minicomputer;
             controller::understand(recording.address, kind, exchange.request, Fault::None)
@@ -100,6 +107,7 @@ impl<'recording> Asked<'recording> {
             .collect();
         Asked {
             recording,
+            not_judged: kept_batch.is_some(),
             commands,
         }
     }
@@ -256,6 +264,7 @@ fn every_record(base: &Record, universe: &Of<Vec<u32>>, most: usize) -> Option<V
 enum Found {
     Fits,
     Refuted(usize),
+    NotJudged,
 }
 
 /// Holds what is told of a recording against its definition; none if there are more than so many starting
@@ -292,7 +301,7 @@ fn replayed(
         left.sort_unstable();
         left.dedup();
         if left.is_empty() {
-            if told.refuted_at() != Some(place) {
+            if told.ended_at() != Some(place) || told.is_not_judged() {
                 return Err(format!("refuted at {place}"));
             }
             return right_reason(asked, base, universe, told, place, fault)
@@ -301,9 +310,26 @@ fn replayed(
         same_product(asked, universe, &left, told, place, fault)?;
         records = left;
     }
-    match told.refuted_at() {
-        None => Ok(Found::Fits),
-        Some(place) => Err(format!("not refuted at {place}")),
+    match told.ended_at() {
+        None if !asked.not_judged => Ok(Found::Fits),
+        _ if asked.not_judged => not_judged(asked, told, fault),
+        ended => Err(format!("ended at {ended:?}")),
+    }
+}
+
+/// From the request for a kept batch on nothing is told but where it is.
+fn not_judged(asked: &Asked, told: &Told, fault: Fault) -> Result<Found, String> {
+    let place = asked.recording.exchanges.len() + 1;
+    let known = |exchanges| told.known(exchanges, FIELDS, fault);
+    let why = told.why(fault);
+    let right = known(place - 1).is_ok()
+        && [place, place + 1, usize::MAX]
+            .iter()
+            .all(|&exchanges| known(exchanges) == Err(Untold::NotJudged(place)))
+        && why == Ok(Some((place, Reason::KeptBatch)));
+    match right {
+        true => Ok(Found::NotJudged),
+        false => Err(format!("not judged at {place}, but why {why:?}")),
     }
 }
 
@@ -448,10 +474,14 @@ fn exchanged_controllers(random: &mut Random) -> Vec<u8> {
 }
 
 fn any_recording(random: &mut Random) -> Vec<u8> {
-    match random.below(4) {
-        0 => telling_recording(random, 5),
-        1 => recordings::adversarial(random, 12),
-        2 => exchanged_controllers(random),
+    match random.below(9) {
+        0 | 1 => telling_recording(random, 5),
+        2 | 3 => recordings::adversarial(random, 12),
+        4 | 5 => exchanged_controllers(random),
+        6 => {
+            let bytes = exchanged_controllers(random);
+            kept_batches::with_kept_batches(random, bytes)
+        }
         _ => loop {
             let bytes = refutations::recording(random);
             if recording::read(&bytes, Fault::None).is_ok() {
@@ -461,12 +491,12 @@ fn any_recording(random: &mut Random) -> Vec<u8> {
     }
 }
 
-/// Holds random recordings against the definition; answers how many fit, how many were refuted, and how
-/// many of these behind two exchanges at least.
-fn compare(seed: u64, wanted: usize, most: usize) -> (usize, usize, usize) {
+/// Holds random recordings against the definition; answers how many fit, how many were refuted, how many of
+/// these behind two exchanges at least, and how many were not judged.
+fn compare(seed: u64, wanted: usize, most: usize) -> (usize, usize, usize, usize) {
     let mut random = Random::new(seed);
-    let (mut fits, mut refuted, mut behind_two) = (0, 0, 0);
-    while fits + refuted < wanted {
+    let (mut fits, mut refuted, mut behind_two, mut not_judged) = (0, 0, 0, 0);
+    while fits + refuted + not_judged < wanted {
         let bytes = any_recording(&mut random);
         let base = records::record(&mut random);
         match agrees(&bytes, &base, most, Fault::None) {
@@ -476,17 +506,21 @@ fn compare(seed: u64, wanted: usize, most: usize) -> (usize, usize, usize) {
                 refuted += 1;
                 behind_two += usize::from(place > 2);
             }
+            Some(Ok(Found::NotJudged)) => not_judged += 1,
             Some(Err(text)) => panic!("{text}\n{bytes:02X?}"),
         }
     }
-    (fits, refuted, behind_two)
+    (fits, refuted, behind_two, not_judged)
 }
 
 #[test]
 fn random_recordings() {
-    let (fits, refuted, behind_two) = compare(1, 1_500, 8_000);
-    let enough = fits > 400 && refuted > 300 && behind_two > 100;
-    assert!(enough, "{fits} fit, {refuted} refuted, {behind_two}");
+    let (fits, refuted, behind_two, not_judged) = compare(1, 1_500, 8_000);
+    let enough = fits > 400 && refuted > 300 && behind_two > 100 && not_judged > 100;
+    assert!(
+        enough,
+        "{fits} fit, {refuted} refuted, {behind_two}, {not_judged} not judged"
+    );
 }
 
 /// Minutes long; run with `--ignored`.
@@ -610,6 +644,11 @@ fn faults_are_noticed() {
         Fault::SilenceTakenForNoRecord,
         Fault::ImpossibleTakenForField,
         Fault::WhyFromZero,
+        Fault::LaterKeptBatchTold,
+        Fault::KnownBehindKeptBatch,
+        Fault::KeptBatchToldAsRefuted,
+        Fault::UnjudgedTakenForFits,
+        Fault::UnjudgedTakenForNoRecord,
     ] {
         let mut random = Random::new(3);
         let noticed = (0..4_000).any(|_| {

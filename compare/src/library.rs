@@ -9,19 +9,33 @@ mod proved {
     use crate::several::Report;
 
     pub use khuyapesh::{
-        board, build, call, drum_take, judge, known, learn, may_hold, panel, read, stored,
-        Following,
+        bank, banked_call, board, build, call, drum_take, judge, known, learn, may_hold, panel,
+        read, stored, Following,
     };
+
+    fn own(report: khuyapesh::Report) -> Report {
+        Report {
+            taken: report.taken,
+            answered: report.answered,
+            written: report.written,
+        }
+    }
 
     /// The answer, and what is reported beside it.
     pub fn several(stored: &mut [u8], bytes: &[u8], reply: &mut [u8]) -> (u32, Report) {
         let (answer, report) = khuyapesh::several(stored, bytes, reply);
-        let report = Report {
-            taken: report.taken,
-            answered: report.answered,
-            written: report.written,
-        };
-        (answer, report)
+        (answer, own(report))
+    }
+
+    /// The answer, and what is reported beside it.
+    pub fn banked_several(
+        stored: &mut [u8],
+        bank: &mut [u8],
+        bytes: &[u8],
+        reply: &mut [u8],
+    ) -> (u32, Report) {
+        let (answer, report) = khuyapesh::banked_several(stored, bank, bytes, reply);
+        (answer, own(report))
     }
 
     pub fn drum_begin(picks: Picks, state: &mut [u8], request: &mut [u8]) -> u32 {
@@ -73,7 +87,7 @@ mod stand_in {
     use crate::fault::Fault;
     use crate::fields::{self, FIELDS};
     use crate::interface::{self, Why};
-    use crate::known::{self, Told};
+    use crate::known::{self, Reason, Told};
     use crate::numbers::Numbers;
     use crate::recording::{self, Exchange, Spans};
     use crate::several::Report;
@@ -85,6 +99,29 @@ mod stand_in {
 
     pub fn several(stored: &mut [u8], bytes: &[u8], reply: &mut [u8]) -> (u32, Report) {
         interface::several(stored, bytes, reply, Fault::None)
+    }
+
+    pub fn banked_call(
+        kind: u8,
+        stored: &mut [u8],
+        bank: &mut [u8],
+        request: &[u8],
+        reply: &mut [u8],
+    ) -> u32 {
+        interface::banked_call(kind, stored, bank, request, reply, Fault::None)
+    }
+
+    pub fn banked_several(
+        stored: &mut [u8],
+        bank: &mut [u8],
+        bytes: &[u8],
+        reply: &mut [u8],
+    ) -> (u32, Report) {
+        interface::banked_several(stored, bank, bytes, reply, Fault::None)
+    }
+
+    pub fn bank(bank: &[u8], out: &mut [u8]) -> u32 {
+        interface::bank(bank, out, Fault::None)
     }
 
     pub fn board(kind: u8, stored: &mut [u8], request: &[u8], reply: &mut [u8]) -> u32 {
@@ -199,14 +236,17 @@ mod stand_in {
             Some(Following { following, sets })
         }
 
-        pub fn learn(&mut self, request: &[u8], reply: &[u8]) -> bool {
+        pub fn learn(&mut self, request: &[u8], reply: &[u8]) -> u32 {
             let mut further = self.following.clone();
-            let learnt = further.learn(Exchange { request, reply }, Fault::None);
-            if learnt.is_ok() {
-                self.sets = further.sets().map(Numbers::written);
-                self.following = further;
+            match further.learn(Exchange { request, reply }, Fault::None) {
+                Ok(()) => {
+                    self.sets = further.sets().map(Numbers::written);
+                    self.following = further;
+                    0
+                }
+                Err(Reason::KeptBatch) => 2,
+                Err(_) => 1,
             }
-            learnt.is_ok()
         }
 
         pub fn exchanges(&self) -> usize {

@@ -3,6 +3,7 @@
 #![deny(unsafe_code)]
 
 mod alarms;
+mod bank;
 mod benchmark;
 mod board;
 mod command;

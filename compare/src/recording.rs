@@ -88,7 +88,8 @@ pub fn read(bytes: &[u8], fault: Fault) -> Result<Recording<'_>, u8> {
     let (address, access) = (bytes[3], bytes[4]);
     let ranges = (1..=HIGHEST_ADDRESS).contains(&address) && access <= HIGHEST_LEVEL;
     let (exchanges, cut) = exchanges(&bytes[HEADER..]);
-    let whole = !cut || fault == Fault::CutAfterRefutation;
+    let overlooked = matches!(fault, Fault::CutAfterRefutation | Fault::CutBehindKeptBatch);
+    let whole = !cut || overlooked;
     let mut tests = [(2, version), (3, length), (4, ranges), (5, whole)];
     match fault {
         Fault::LengthFieldJudgedFirst => tests.swap(0, 1),

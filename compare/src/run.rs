@@ -1,13 +1,15 @@
 //! The comparison run: random inputs in rounds, then the enumeration.
 
-use crate::comparison::{reply_laid, Comparison, Counts, Difference};
+use crate::comparison::{reply_laid, Comparison, Counts, Difference, Unit};
 use crate::drum::{Step, STEP};
 use crate::enumeration;
 use crate::fault::Fault;
 use crate::fields::{self, ANY, ANY_ALARMS, FIELDS, LASTING_ALARMS};
 use crate::frame::{self, Kind};
+use crate::generate::streams::Talk;
 use crate::generate::{
-    boards, drum_changes, host, recordings, records, refutations, requests, stored_forms, streams,
+    banks, boards, drum_changes, host, kept_batches, recordings, records, refutations, requests,
+    stored_forms, streams,
 };
 use crate::random::Random;
 use crate::record::Record;
@@ -60,13 +62,15 @@ fn random_rounds(
     };
     let mut record = any_record(&mut random);
     // Numbers of their own: all else that a seed gives does not hang on the streams, the boards, the drum
-    // changes or what recordings tell.
+    // changes, what recordings tell or the banks.
     let mut random_of_streams = Random::new(!amounts.seed);
     let mut record_of_streams = any_record(&mut random_of_streams);
     let mut random_of_boards = Random::new(amounts.seed ^ 1 << 63);
     let mut board = boards::board(&mut random_of_boards);
     let mut random_of_drum_changes = Random::new(amounts.seed ^ 1 << 62);
     let mut random_of_refutations = Random::new(amounts.seed ^ 1 << 61);
+    let mut random_of_banks = Random::new(amounts.seed ^ 1 << 60);
+    let mut unit = any_unit(&mut random_of_banks);
     let mut last_progress = Instant::now();
     for round in 0..rounds {
         for _ in 0..share(amounts.calls, round) {
@@ -93,6 +97,20 @@ fn random_rounds(
         }
         for _ in 0..share(amounts.calls / 10, round) {
             one_drum_change(comparison, &mut random_of_drum_changes)?;
+        }
+        for _ in 0..share(amounts.calls / 10, round) {
+            unit = one_banked_call(comparison, &mut random_of_banks, unit)?;
+        }
+        for _ in 0..share(amounts.calls / 40, round) {
+            unit = one_banked_stream(comparison, &mut random_of_banks, unit)?;
+        }
+        for _ in 0..share(amounts.calls / 20, round) {
+            let form = banks::form(&mut random_of_banks);
+            let out = banks::out(&mut random_of_banks, &form);
+            comparison.bank(&form, &out)?;
+        }
+        for _ in 0..share(amounts.recordings / 4, round) {
+            one_unjudged(comparison, &mut random_of_banks)?;
         }
         if progress && last_progress.elapsed() >= PROGRESS_INTERVAL {
             eprintln!("round {} of {rounds}: {}", round + 1, comparison.counts);
@@ -187,7 +205,11 @@ fn one_stream(
         record = any_record(random);
     }
     let (_, held) = stored::read(&record, Fault::None);
-    let stream = streams::stream(random, &held);
+    let talk = Talk {
+        record: &held,
+        command: requests::command,
+    };
+    let stream = streams::stream(random, talk);
     let mut untaken = Vec::new();
     for tick in streams::ticks(random, &stream) {
         if random.percent(25) {
@@ -195,7 +217,8 @@ fn one_stream(
         }
         untaken.extend(tick);
         let (_, held) = stored::read(&record, Fault::None);
-        let length = streams::reply_length(random, &held, &untaken);
+        let replied = |part: &[u8]| streams::replied(held, None, part);
+        let length = streams::reply_length(random, &untaken, replied);
         let reply = random.bytes(length);
         if random.percent(3) {
             let form = stored_forms::stored_form(random);
@@ -206,6 +229,113 @@ fn one_stream(
         record = after;
     }
     Ok(record)
+}
+
+fn any_unit(random: &mut Random) -> Unit {
+    Unit {
+        stored: stored::form(&banks::record(random)).to_vec(),
+        bank: banks::lent(random),
+    }
+}
+
+/// A unit to go on with: now and then another record, another bank, or a panel event.
+fn next_unit(
+    comparison: &mut Comparison,
+    random: &mut Random,
+    mut unit: Unit,
+) -> Result<Unit, Difference> {
+    if random.percent(10) {
+        unit.stored = stored::form(&banks::record(random)).to_vec();
+    }
+    if random.percent(6) {
+        unit.bank = banks::lent(random);
+    }
+    if random.percent(25) {
+        unit.stored = one_event(comparison, random, unit.stored)?;
+    }
+    Ok(unit)
+}
+
+/// The unit with its bank spoiled, now and then with a record of any stored bytes.
+fn spoiled_unit(random: &mut Random, unit: &Unit) -> Unit {
+    let stored = match random.below(4) {
+        0 => stored_forms::stored_form(random),
+        _ => unit.stored.clone(),
+    };
+    let bank = match random.below(8) {
+        0 => unit.bank.clone(),
+        _ => banks::spoiled(random, &unit.bank),
+    };
+    Unit { stored, bank }
+}
+
+/// One call with a bank, now and then over a spoiled copy of the unit, or without the bank; answers the
+/// unit to go on with.
+fn one_banked_call(
+    comparison: &mut Comparison,
+    random: &mut Random,
+    unit: Unit,
+) -> Result<Unit, Difference> {
+    let unit = next_unit(comparison, random, unit)?;
+    let (kind, kind_number) = any_kind(random);
+    let (_, held) = stored::read(&unit.stored, Fault::None);
+    let request = requests::request(random, kind, &held, requests::banked_command);
+    let reply = out_buffer(random, 64);
+    if random.percent(15) {
+        let spoiled = spoiled_unit(random, &unit);
+        let kind_number = if random.percent(8) { 2 } else { kind_number };
+        comparison.banked_call(kind_number, &spoiled, &request, &reply)?;
+        return Ok(unit);
+    }
+    if random.percent(5) {
+        comparison.call(kind_number, &unit.stored, &request, &reply)?;
+        comparison.board(kind_number, &unit.stored, &request, &reply)?;
+    }
+    let (_, after, _) = comparison.banked_call(kind_number, &unit, &request, &reply)?;
+    Ok(after)
+}
+
+/// One stream in ticks over a unit with a bank, what was not taken before what comes next; answers the
+/// unit to go on with.
+fn one_banked_stream(
+    comparison: &mut Comparison,
+    random: &mut Random,
+    mut unit: Unit,
+) -> Result<Unit, Difference> {
+    let (_, held) = stored::read(&unit.stored, Fault::None);
+    let talk = Talk {
+        record: &held,
+        command: requests::banked_command,
+    };
+    let stream = streams::stream(random, talk);
+    let mut untaken = Vec::new();
+    for tick in streams::ticks(random, &stream) {
+        unit = next_unit(comparison, random, unit)?;
+        untaken.extend(tick);
+        let (_, held) = stored::read(&unit.stored, Fault::None);
+        let bank = banks::held(&unit.bank);
+        let replied = |part: &[u8]| streams::replied(held, Some(&bank), part);
+        let length = streams::reply_length(random, &untaken, replied);
+        let reply = random.bytes(length);
+        if random.percent(10) {
+            let spoiled = spoiled_unit(random, &unit);
+            comparison.banked_several(&spoiled, &untaken, &reply)?;
+        }
+        let (report, after, _) = comparison.banked_several(&unit, &untaken, &reply)?;
+        untaken.drain(..report.taken);
+        unit = after;
+    }
+    Ok(unit)
+}
+
+/// A recording in which kept batches are asked for: its judgement and, now and then, what it tells.
+fn one_unjudged(comparison: &mut Comparison, random: &mut Random) -> Result<(), Difference> {
+    let recording = kept_batches::recording(random);
+    comparison.judge(&recording)?;
+    if random.percent(40) {
+        comparison.told(&recording)?;
+    }
+    Ok(())
 }
 
 /// One call over a board, now and then over a spoiled copy of it; answers the board to go on with.

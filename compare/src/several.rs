@@ -1,5 +1,6 @@
 //! A buffer with several frames: document 02's walk over what came in, the record in place.
 
+use crate::bank::Bank;
 use crate::controller::{self, Outcome, Request};
 use crate::fault::Fault;
 use crate::frame::{is_text_byte, Kind, ETX, LEAST_BUFFER, LEAST_TEXT, MOST_TEXT, STX};
@@ -23,6 +24,31 @@ pub fn answer_all(
     reply: &mut [u8],
     fault: Fault,
 ) -> Option<Report> {
+    answer_all_with(record, None, bytes, reply, fault)
+}
+
+/// Answers all frames in order, with a bank beside the record; none if one of them is not valid (S1).
+pub fn answer_all_banked(
+    record: &mut Record,
+    bank: &mut Bank,
+    bytes: &[u8],
+    reply: &mut [u8],
+    fault: Fault,
+) -> Option<Report> {
+    if !bank.is_valid() {
+        return None;
+    }
+    answer_all_with(record, Some(bank), bytes, reply, fault)
+}
+
+/// Answers all frames in order, with a good bank or without one.
+fn answer_all_with(
+    record: &mut Record,
+    bank: Option<&mut Bank>,
+    bytes: &[u8],
+    reply: &mut [u8],
+    fault: Fault,
+) -> Option<Report> {
     if !record.is_valid() {
         return None;
     }
@@ -30,7 +56,7 @@ pub fn answer_all(
         return Some(Report::default());
     }
     let mut kept = None;
-    let mut report = walk(record, &mut kept, bytes, reply, fault);
+    let mut report = walk(record, bank, &mut kept, bytes, reply, fault);
     let stopped = report.taken < bytes.len();
     if let Some(before) = kept {
         if fault == Fault::LastRecordNotReturned || fault == Fault::StopForgetsRecord && stopped {
@@ -43,15 +69,20 @@ pub fn answer_all(
     Some(report)
 }
 
-/// The walk; what is kept of the record on the way is for planted faults alone.
+/// The walk; what is kept of the record and the bank on the way is for planted faults alone.
 fn walk(
     record: &mut Record,
+    mut bank: Option<&mut Bank>,
     kept: &mut Option<Record>,
     bytes: &[u8],
     reply: &mut [u8],
     fault: Fault,
 ) -> Report {
     let mut report = Report::default();
+    let first_bank = match fault {
+        Fault::FirstBankForAll => bank.as_deref().cloned(),
+        _ => None,
+    };
     loop {
         let (place, frame) = next_frame(bytes, report.taken, record.address, fault);
         report.taken = place;
@@ -64,13 +95,17 @@ fn walk(
         }
         if !matches!(request, Request::Silent(_)) {
             mix_up(record, kept, fault);
+            if let (Some(first), Some(bank)) = (&first_bank, bank.as_deref_mut()) {
+                bank.clone_from(first);
+            }
         }
         let start = match fault {
             Fault::EachReplyAtStart => 0,
             _ => report.written,
         };
         let room = &mut reply[start..];
-        match controller::respond(record, Kind::Minicomputer, request, room, fault) {
+        let bank = bank.as_deref_mut();
+        match controller::respond(record, bank, Kind::Minicomputer, request, room, fault) {
             Outcome::Reply(length) => {
                 let counted = fault != Fault::RefusalNotCounted || room[3..5] != *b"NO";
                 report.answered += usize::from(counted);
@@ -184,7 +219,7 @@ fn least_room(request: Request, fault: Fault) -> usize {
     let asked = match request {
         Request::Silent(8) => fault == Fault::RoomForOtherAddress,
         Request::Silent(_) => fault == Fault::RoomForBadFrame,
-        Request::Refused(..) | Request::Asked(_) => true,
+        Request::Refused(..) | Request::KeptBatch(_) | Request::Asked(_) => true,
     };
     match fault {
         _ if !asked => 0,

@@ -2,6 +2,7 @@
 //! program.
 
 use crate::alarms;
+use crate::bank::{Bank, Batch};
 use crate::comparison::Comparison;
 use crate::controller::{self, Outcome};
 use crate::drum::{self, Answer, Picks, Step};
@@ -9,13 +10,16 @@ use crate::enumeration::plain_record;
 use crate::fault::Fault;
 use crate::fields::{self, FIELDS};
 use crate::frame::{framed, Kind};
+use crate::generate::{banks, records, requests};
 use crate::interface;
 use crate::judge::{judge, Alarms, Judgement};
 use crate::known::{Reason, Told, Untold};
 use crate::numbers::Numbers;
+use crate::panel::{self, Event};
 use crate::parameters::{factor_place, parameter_code, parameter_place, LIST, VALUE_RANGES};
+use crate::random::Random;
 use crate::record::{Phase, Record};
-use crate::recording;
+use crate::recording::{self, Exchange};
 use crate::several::{self, Report};
 use std::fs;
 use std::path::Path;
@@ -596,6 +600,316 @@ fn several_frames_to_a_record_that_is_not_valid() {
     assert_eq!((report, record, reply), (None, invalid, [0xEE; 64]));
 }
 
+/// The batch that bench and worked examples come to: number 1, recipe 3, factor 10150, raw 500, preset 500.
+const KEPT: &str = "00 01 03 27 A6 00 00 01 F4 00 01 F4";
+
+/// Asks a unit with a bank, checks the reply and answers the record after it.
+fn ask_banked(record: Record, bank: &mut Bank, command: &str, reply: &str) -> Record {
+    let mut last = record;
+    let before = bank.clone();
+    for kind in [Kind::Terminal, Kind::Minicomputer] {
+        let request = framed(kind, format!("01{command}").as_bytes());
+        let expected = framed(kind, format!("01{reply}").as_bytes());
+        let mut buffer = [0xEE; 70];
+        bank.clone_from(&before);
+        let (outcome, after) =
+            controller::banked_call(record, bank, kind, &request, &mut buffer, Fault::None);
+        assert_eq!(outcome, Outcome::Reply(expected.len()), "{command}");
+        assert_eq!(buffer[..expected.len()], expected, "{command}");
+        assert!(buffer[expected.len()..].iter().all(|&byte| byte == 0xEE));
+        last = after;
+    }
+    last
+}
+
+/// The bench's batch of 500, done by pulses or stopped, and then ended.
+fn batch_on_the_bench(record: Record, bank: &mut Bank, stopped: bool) -> Record {
+    let record = ask_banked(record, bank, "PC 032 10150", "OK");
+    let record = ask_banked(record, bank, "SB 500", "OK");
+    let record = ask_banked(record, bank, "SA", "OK");
+    let record = if stopped {
+        ask_banked(record, bank, "SP", "OK")
+    } else {
+        record
+    };
+    let record = panel::after(record, Event::Pulses(500), Fault::None);
+    let expected = if stopped { Phase::Stopped } else { Phase::Done };
+    assert_eq!(record.phase, expected);
+    ask_banked(record, bank, "ET", "OK")
+}
+
+#[test]
+fn finished_batches_kept() {
+    for stopped in [false, true] {
+        let mut bank = Bank::default();
+        let record = ask_banked(bench_record(), &mut bank, "RT R 001", "NO03");
+        let record = batch_on_the_bench(record, &mut bank, stopped);
+        let form = [bytes("01 00 0F"), bytes(KEPT)].concat();
+        assert_eq!(bank.form(Fault::None), form);
+        // What is written afterwards leaves it.
+        let record = ask_banked(record, &mut bank, "PC 032 10012", "OK");
+        let record = ask_banked(record, &mut bank, "NR 04", "OK");
+        let record = ask_banked(record, &mut bank, "SB 7", "OK");
+        let record = ask_banked(record, &mut bank, "RT R", "RT R 00000000");
+        let record = ask_banked(record, &mut bank, "RT R 001", "RT R 00000500 001");
+        assert_eq!(bank.form(Fault::None), form);
+        // From Set nothing is kept; from Idle ET is refused.
+        let record = ask_banked(record, &mut bank, "ET", "OK");
+        let record = ask_banked(record, &mut bank, "ET", "NO05");
+        assert_eq!(bank.form(Fault::None), form);
+        let record = ask_banked(record, &mut bank, "RT R 002", "NO03");
+        ask_banked(record, &mut bank, "RT R 000", "NO03");
+    }
+}
+
+/// The request and the reply byte by byte.
+#[test]
+fn a_kept_batch_on_the_line() {
+    let mut bank = Bank::default();
+    let record = batch_on_the_bench(bench_record(), &mut bank, false);
+    let request = bytes("02 30 31 52 54 20 52 20 30 30 31 03 67 7F");
+    let expected = bytes("02 30 31 52 54 20 52 20 30 30 30 30 30 35 30 30 20 30 30 31 03 42 7F");
+    let mut buffer = [0; 64];
+    let kind = Kind::Minicomputer;
+    let (outcome, after) =
+        controller::banked_call(record, &mut bank, kind, &request, &mut buffer, Fault::None);
+    assert_eq!((outcome, after), (Outcome::Reply(23), record));
+    assert_eq!(buffer[..23], expected);
+    // Without a bank document 01's NO01.
+    assert_eq!(
+        call(record, &request),
+        (bytes("02 30 31 4E 4F 30 31 03 02 7F"), record)
+    );
+}
+
+#[test]
+fn kept_batches_refused() {
+    let mut bank = Bank::default();
+    let ended = batch_on_the_bench(bench_record(), &mut bank, false);
+    let before = bank.clone();
+    for text in [
+        "RT R 1",
+        "RT R 01",
+        "RT R 0001",
+        "RT R ",
+        "RT R 001 ",
+        "RT R  001",
+        "RT R 00A",
+        "RT G 001",
+        "RT N 001",
+        "RT P 000",
+        "RT M 101",
+        "RT X 001",
+        "RT 001",
+        "RT R001",
+    ] {
+        assert_eq!(ask_banked(ended, &mut bank, text, "NO01"), ended);
+        assert_eq!(ask(ended, text, "NO01"), ended);
+    }
+    for number in [0, 2, 99, 100, 101, 256, 257, 999] {
+        let text = format!("RT R {number:03}");
+        assert_eq!(ask_banked(ended, &mut bank, &text, "NO03"), ended);
+        assert_eq!(ask(ended, &text, "NO01"), ended);
+    }
+    // No keypad, access or phase is asked for.
+    for phase in Phase::ALL {
+        let record = Record {
+            phase,
+            keypad: true,
+            access: 0,
+            ..ended
+        };
+        ask_banked(record, &mut bank, "RT R 001", "RT R 00000500 001");
+        ask_banked(record, &mut bank, "RT R 002", "NO03");
+        ask_banked(record, &mut bank, "ET", "NO02");
+        if matches!(phase, Phase::Idle | Phase::Running) {
+            let record = Record {
+                keypad: false,
+                ..record
+            };
+            ask_banked(record, &mut bank, "ET", "NO05");
+        }
+    }
+    assert_eq!(bank, before);
+}
+
+/// The oldest gives its room to the 101st.
+#[test]
+fn more_batches_than_are_kept() {
+    let mut bank = Bank::default();
+    for number in 1..=250u16 {
+        let record = Record {
+            phase: Phase::Stopped,
+            raw: u32::from(number),
+            number,
+            ..bench_record()
+        };
+        ask_banked(record, &mut bank, "ET", "OK");
+        let newest = format!("RT R {number:08} 001");
+        ask_banked(record, &mut bank, "RT R 001", &newest);
+        let kept = number.min(100);
+        let oldest = format!("RT R {:08} {kept:03}", number - kept + 1);
+        ask_banked(record, &mut bank, &format!("RT R {kept:03}"), &oldest);
+        let past = format!("RT R {:03}", kept + 1);
+        ask_banked(record, &mut bank, &past, "NO03");
+    }
+    let form = bank.form(Fault::None);
+    assert_eq!(form.len(), 1203);
+    assert_eq!(form[..5], [1, 0x04, 0xB3, 0, 151]);
+    assert_eq!(form[1191..1193], [0, 250]);
+}
+
+/// A bank changes no reply but to RT R NNN, and no record.
+#[test]
+fn a_bank_changes_nothing_else() {
+    let mut random = Random::new(7);
+    for _ in 0..5_000 {
+        let record = records::record(&mut random);
+        let kind = random.pick(&[Kind::Minicomputer, Kind::Terminal]);
+        let request = requests::request(&mut random, kind, &record, requests::command);
+        let mut bank = banks::bank(&mut random);
+        let (mut with, mut without) = ([0; 64], [0; 64]);
+        let banked =
+            controller::banked_call(record, &mut bank, kind, &request, &mut with, Fault::None);
+        let alone = controller::call(record, kind, &request, &mut without, Fault::None);
+        assert_eq!((banked, with), (alone, without), "{request:02X?}");
+    }
+}
+
+/// A bank that is not valid is S1; nothing changes.
+#[test]
+fn a_bank_that_is_not_valid() {
+    let good = Batch {
+        number: 1,
+        recipe: 3,
+        factor: 10_150,
+        raw: 500,
+        preset: 500,
+    };
+    let stopped = Record {
+        phase: Phase::Stopped,
+        ..bench_record()
+    };
+    for batches in [vec![Batch { recipe: 9, ..good }, good], vec![good; 101]] {
+        let mut bank = Bank::with(batches);
+        let before = bank.clone();
+        for text in ["01ET", "01EQ", "01RT R 001"] {
+            let request = framed(Kind::Terminal, text.as_bytes());
+            let mut buffer = [0xEE; 64];
+            let called = controller::banked_call(
+                stopped,
+                &mut bank,
+                Kind::Terminal,
+                &request,
+                &mut buffer,
+                Fault::None,
+            );
+            assert_eq!(called, (Outcome::Silence(1), stopped));
+            assert_eq!((&bank, buffer), (&before, [0xEE; 64]));
+        }
+    }
+}
+
+#[test]
+fn judge_of_kept_batches() {
+    let asked = ("RT R 001", "RT R 00000500 001");
+    let [idle, wrong] = [("EQ", "000000"), ("TN", "TN 0000")];
+    let not_judged = |place, count| Judgement::NotJudged { place, count };
+    // Whatever the reply and whatever follows, and 000 and 999 too.
+    for text in ["RT R 001", "RT R 000", "RT R 100", "RT R 999"] {
+        for reply in ["RT R 00000500 001", "NO03", "NO01", "OK"] {
+            assert_eq!(judged(&[(text, reply)]), not_judged(1, 1));
+            assert_eq!(judged(&[idle, (text, reply), wrong]), not_judged(2, 3));
+        }
+    }
+    assert_eq!(judged(&[idle, asked, asked, idle]), not_judged(2, 4));
+    // What is before it is judged alone, and N counts all.
+    let refuted = Judgement::Refuted { place: 2, count: 4 };
+    assert_eq!(judged(&[idle, wrong, asked, idle]), refuted);
+    assert_eq!(judged(&[idle, idle, asked, wrong]), not_judged(3, 4));
+    // These ask for none.
+    for text in ["RT G 001", "RT R 1", "RT R 0001", "RT R 001 "] {
+        assert!(fits(&[(text, "NO01"), idle]), "{text}");
+        assert!(refuted_at_last(&[(text, "NO03")]), "{text}");
+    }
+}
+
+/// A request that meets a silence asks for nothing; one that meets none is not judged, also where no reply
+/// was recorded. The form comes first.
+#[test]
+fn judge_of_kept_batches_and_silences() {
+    let asked = framed(Kind::Minicomputer, b"01RT R 001");
+    let mut wrong_check = asked.clone();
+    wrong_check[12] ^= 1;
+    let other_address = framed(Kind::Minicomputer, b"02RT R 001");
+    let terminal = framed(Kind::Terminal, b"01RT R 001");
+    let reply = framed(Kind::Minicomputer, b"01NO03");
+    let one = |request: &[u8], reply: &[u8]| {
+        let exchanges = [(request.to_vec(), reply.to_vec())];
+        judge(&recording::build(1, 2, &exchanges), Fault::None)
+    };
+    for silent in [&wrong_check, &other_address, &terminal] {
+        assert_eq!(one(silent, &[]), Judgement::Fits { count: 1 });
+        let refuted = Judgement::Refuted { place: 1, count: 1 };
+        assert_eq!(one(silent, &reply), refuted);
+    }
+    let not_judged = Judgement::NotJudged { place: 1, count: 1 };
+    for reply in [&[][..], &[0], &reply] {
+        assert_eq!(one(&asked, reply), not_judged);
+    }
+    let mut cut = recording::build(1, 2, &[(asked, reply)]);
+    cut.extend([0]);
+    recording::mend_length(&mut cut);
+    assert_eq!(judge(&cut, Fault::None), Judgement::Refused(5));
+}
+
+#[test]
+fn told_of_kept_batches() {
+    let bytes = recorded(&[
+        ("EQ", "000000"),
+        ("SB 500", "OK"),
+        ("RT R 001", "NO03"),
+        ("TN", "TN 0000"),
+    ]);
+    let told = Told::by(&bytes, Fault::None);
+    let known = |exchanges| told.known(exchanges, FIELDS, Fault::None);
+    assert_eq!(known(2).unwrap()[fields::PRESET], Numbers::Just(500));
+    for exchanges in [3, 4, 5, usize::MAX] {
+        assert_eq!(known(exchanges), Err(Untold::NotJudged(3)));
+    }
+    assert_eq!(told.why(Fault::None), Ok(Some((3, Reason::KeptBatch))));
+    // A refutation before it is told as ever.
+    let bytes = recorded(&[("TN", "TN 0000"), ("RT R 001", "NO03")]);
+    let told = Told::by(&bytes, Fault::None);
+    assert_eq!(told.why(Fault::None), Ok(Some((1, Reason::NoRecord))));
+    let known = told.known(2, FIELDS, Fault::None);
+    assert_eq!(known, Err(Untold::Refuted(1)));
+}
+
+/// Over sets nothing is learnt from it, whatever the reply; a silent one is a silence.
+#[test]
+fn nothing_learnt_from_kept_batches() {
+    let begun = Told::by(&recorded(&[]), Fault::None);
+    let sets = begun.known(0, FIELDS, Fault::None).unwrap();
+    let before = sets.map(Numbers::written);
+    let asked = framed(Kind::Minicomputer, b"01RT R 001");
+    let other_address = framed(Kind::Minicomputer, b"02RT R 001");
+    let reply = framed(Kind::Minicomputer, b"01NO03");
+    for (request, reply, expected) in [
+        (&asked, &reply[..], 2),
+        (&asked, &[], 2),
+        (&other_address, &[], 0),
+        (&other_address, &reply, 1),
+    ] {
+        let mut sets = before;
+        let exchange = Exchange { request, reply };
+        let answer = interface::learn(1, 2, exchange, &mut sets, Fault::None);
+        assert_eq!((answer, sets), (expected, before));
+        let short = interface::learn(1, 2, exchange, &mut sets[1..], Fault::None);
+        assert_eq!((short, sets), (401, before));
+    }
+}
+
 /// The foreman at unit 7: recipe 3, factor 10150 (27A6), preset 500 (1F4). Each request with its check,
 /// and the right reply with its check.
 const PICKS: Picks = Picks {
@@ -1020,6 +1334,7 @@ fn example_recordings() {
         let judged = match judge(&bytes, Fault::None) {
             Judgement::Fits { count } => format!("fits {count}"),
             Judgement::Refuted { place, count } => format!("refuted at {place} of {count}"),
+            Judgement::NotJudged { place, .. } => format!("not judged at {place}"),
             Judgement::Refused(number) => format!("refused J{number}"),
         };
         assert_eq!(judged, answer, "{file}");

@@ -1,6 +1,7 @@
 /* Runs the functions on a stack that was painted before, and prints how much of it was written over: by most of them, by
- * khuyapesh_board, and by those that tell what a recording does. Status 1 if it is not under KHUYAPESH_STACK,
- * KHUYAPESH_BOARD_STACK and KHUYAPESH_TELL_STACK, or if an answer is not the expected one. */
+ * khuyapesh_board, by those that tell what a recording does, and by those with a bank. Status 1 if it is not under
+ * KHUYAPESH_STACK, KHUYAPESH_BOARD_STACK, KHUYAPESH_TELL_STACK and KHUYAPESH_BANK_STACK, or if an answer is not the expected
+ * one. */
 #define _XOPEN_SOURCE 700
 #include <stdio.h>
 #include <string.h>
@@ -10,7 +11,7 @@
 
 enum { PAINT = 0xa5 };
 
-static unsigned char stack[4 * KHUYAPESH_BOARD_STACK];
+static unsigned char stack[4 * KHUYAPESH_BANK_STACK];
 static ucontext_t caller, callee;
 static int expected = 1;
 
@@ -32,6 +33,24 @@ static void change_drum(uint8_t *stored)
  * to end. The recording stays, for what follows. */
 static uint8_t recording[2048];
 static size_t recorded;
+
+static void set_length(size_t length)
+{
+    recording[1] = (uint8_t)(length >> 8);
+    recording[2] = (uint8_t)length;
+}
+
+/* One exchange more, at which the recording is not judged, whatever came back. The length with it. */
+static size_t ask_for_batch(void)
+{
+    uint32_t sent = khuyapesh_build(0, (const uint8_t *)"01RT R 001", 10, recording + recorded + 1, KHUYAPESH_FRAME_ROOM);
+    size_t length = recorded + 1 + sent + 1;
+
+    recording[recorded] = (uint8_t)sent;
+    recording[length - 1] = 0;
+    set_length(length);
+    return length;
+}
 
 static void work(void)
 {
@@ -61,9 +80,10 @@ static void work(void)
         streamed += sent;
     }
     recording[0] = 1;
-    recording[1] = (uint8_t)(recorded >> 8);
-    recording[2] = (uint8_t)recorded;
     recording[3] = 1;
+    expected &= khuyapesh_judge(recording, ask_for_batch(), &place, &count) == KHUYAPESH_NOT_JUDGED;
+    expected &= place == index + 1 && count == place;
+    set_length(recorded);
     expected &= khuyapesh_judge(recording, recorded, &place, &count) == KHUYAPESH_FITS;
     expected &= khuyapesh_several(stored, sizeof stored, stream, streamed, replies, sizeof replies, &taken, &answered,
                                   &written) == KHUYAPESH_DONE;
@@ -73,12 +93,12 @@ static void work(void)
     expected &= khuyapesh_stored(stored, sizeof stored, copy, sizeof copy) == KHUYAPESH_DONE;
 }
 
-/* What a recording that fits tells, exchange by exchange and at once; then why it is refuted with its first exchange once
- * more at its end, where the phase is another. */
+/* What a recording that fits tells, exchange by exchange and at once; that it is not judged to its end with a request for a
+ * kept batch there; then why it is refuted with its first exchange once more at its end, where the phase is another. */
 static void tell(void)
 {
     static uint32_t sets[KHUYAPESH_FIELDS], learnt[KHUYAPESH_FIELDS];
-    size_t length = recorded, at = 5, count = 0, first = 0, place, request, stop, reply, end;
+    size_t length, at = 5, count = 0, first = 0, place, request, stop, reply, end;
     uint32_t number, held, needed;
 
     expected &= khuyapesh_known(recording, recorded, 0, learnt, KHUYAPESH_FIELDS, &place) == KHUYAPESH_DONE;
@@ -93,14 +113,20 @@ static void tell(void)
     expected &= memcmp(sets, learnt, sizeof sets) == 0;
     expected &= khuyapesh_may_hold(KHUYAPESH_PHASE, sets[KHUYAPESH_PHASE], 2) == 1;
 
-    memcpy(recording + length, recording + 5, first);
-    length += first;
-    recording[1] = (uint8_t)(length >> 8);
-    recording[2] = (uint8_t)length;
+    length = ask_for_batch();
+    expected &= khuyapesh_known(recording, length, count + 1, sets, KHUYAPESH_FIELDS, &place) == KHUYAPESH_NOT_JUDGED;
+    expected &= khuyapesh_why(recording, length, &place, &number, &held, &needed) == KHUYAPESH_KEPT_BATCH;
+    expected &= place == count + 1;
+    expected &= khuyapesh_learn(recording[3], recording[4], recording + recorded + 1, recording[recorded], recording, 0, learnt,
+                                KHUYAPESH_FIELDS) == KHUYAPESH_NOT_JUDGED;
+    expected &= memcmp(sets, learnt, sizeof sets) == 0;
+
+    length = recorded + first;
+    memcpy(recording + recorded, recording + 5, first);
+    set_length(length);
     expected &= khuyapesh_why(recording, length, &place, &number, &held, &needed) == KHUYAPESH_FIELD;
     expected &= place == count + 1 && number == KHUYAPESH_PHASE && held == sets[KHUYAPESH_PHASE] && needed == 1;
-    recording[1] = (uint8_t)(recorded >> 8);
-    recording[2] = (uint8_t)recorded;
+    set_length(recorded);
 }
 
 /* A full board, with requests to its last record that are read, written and refused. */
@@ -120,6 +146,39 @@ static void work_on_board(void)
 
         expected &= !khuyapesh_is_refusal(khuyapesh_board(0, board, sizeof board, request, sent, reply, sizeof reply));
     }
+}
+
+/* A full bank, whose oldest batch gives its room to one more; its batches asked for, the first, the last and one more than
+ * there are; then the same requests end to end, and the bank read and written. */
+static void work_with_bank(void)
+{
+    static const char *const texts[] = {"01SB 500", "01SA", "01SP", "01ET", "01RT R 001", "01RT R 100", "01RT R 101"};
+    static const uint8_t batch[] = {0, 1, 1, 0x1F, 0x40, 0, 0, 0, 0, 0, 0, 0};
+    static uint8_t stored[KHUYAPESH_STORED_LENGTH], bank[KHUYAPESH_BANK_LENGTH], copy[KHUYAPESH_BANK_LENGTH];
+    static uint8_t request[KHUYAPESH_FRAME_ROOM], reply[KHUYAPESH_FRAME_ROOM], stream[1024], replies[1024];
+    size_t streamed = 0, index, taken, answered, written;
+
+    khuyapesh_stored(request, 0, stored, sizeof stored);
+    expected &= khuyapesh_bank(request, 0, bank, sizeof bank) == KHUYAPESH_STORED + 7;
+    bank[1] = KHUYAPESH_BANK_LENGTH >> 8;
+    bank[2] = KHUYAPESH_BANK_LENGTH & 0xff;
+    for (index = 0; index < KHUYAPESH_BANK_BATCHES; index++)
+        memcpy(bank + 3 + index * sizeof batch, batch, sizeof batch);
+    for (index = 0; index < sizeof texts / sizeof *texts; index++) {
+        uint32_t sent = khuyapesh_build(0, (const uint8_t *)texts[index], strlen(texts[index]), request, sizeof request);
+
+        expected &= !khuyapesh_is_refusal(khuyapesh_banked_call(0, stored, sizeof stored, bank, sizeof bank, request, sent,
+                                                                reply, sizeof reply));
+        memcpy(stream + streamed, request, sent);
+        streamed += sent;
+    }
+    expected &= khuyapesh_banked_several(stored, sizeof stored, bank, sizeof bank, stream, streamed, replies, sizeof replies,
+                                         &taken, &answered, &written) == KHUYAPESH_DONE;
+    expected &= taken == streamed && answered == index;
+    /* the two that were ended, numbers 2 and 3, are the newest */
+    expected &= bank[sizeof bank - 24 + 1] == 2 && bank[sizeof bank - 12 + 1] == 3;
+    expected &= khuyapesh_bank(bank, sizeof bank, copy, sizeof copy) == KHUYAPESH_DONE;
+    expected &= memcmp(bank, copy, sizeof bank) == 0;
 }
 
 static void run(void (*task)(void))
@@ -149,9 +208,11 @@ static size_t taken_by(void (*task)(void))
 int main(void)
 {
     size_t used = taken_by(work), used_to_tell = taken_by(tell), used_on_board = taken_by(work_on_board);
+    size_t used_with_bank = taken_by(work_with_bank);
 
-    printf("stack: %lu of %d bytes, to tell %lu of %d, with a board %lu of %d\n", (unsigned long)used, KHUYAPESH_STACK,
-           (unsigned long)used_to_tell, KHUYAPESH_TELL_STACK, (unsigned long)used_on_board, KHUYAPESH_BOARD_STACK);
+    printf("stack: %lu of %d bytes, to tell %lu of %d, with a board %lu of %d, with a bank %lu of %d\n", (unsigned long)used,
+           KHUYAPESH_STACK, (unsigned long)used_to_tell, KHUYAPESH_TELL_STACK, (unsigned long)used_on_board,
+           KHUYAPESH_BOARD_STACK, (unsigned long)used_with_bank, KHUYAPESH_BANK_STACK);
     return !expected || used >= KHUYAPESH_STACK || used_to_tell >= KHUYAPESH_TELL_STACK ||
-           used_on_board >= KHUYAPESH_BOARD_STACK;
+           used_on_board >= KHUYAPESH_BOARD_STACK || used_with_bank >= KHUYAPESH_BANK_STACK;
 }

@@ -12,7 +12,10 @@ const REQUESTS: [(&str, &str); 18] = [
     ("TN", "asks for the batch number"),
     ("RR", "asks for the recipe in use"),
     ("RC", "asks for the recipe in use and its factor"),
-    ("RT", "asks for a total (R: the raw total)"),
+    (
+        "RT",
+        "asks for a total (R: the raw total; R and three digits: that of a kept batch, 001 the newest)",
+    ),
     ("PV", "asks for the value of a parameter"),
     ("XV", "asks for the level of a parameter"),
     ("PC", "gives a parameter a value"),
@@ -28,10 +31,11 @@ const REQUESTS: [(&str, &str); 18] = [
 ];
 
 /// What each refusal says.
-const REFUSALS: [(&str, &str); 10] = [
+const REFUSALS: [(&str, &str); 11] = [
     ("NO00", "there is no such request"),
     ("NO01", "the request is mistyped"),
     ("NO02", "the keypad is in use"),
+    ("NO03", "no such batch is kept"),
     ("NO04", "there is no such parameter"),
     ("NO05", "not possible at this phase of the batch"),
     ("NO06", "this number is never allowed here"),

@@ -15,13 +15,14 @@ pub struct Told {
 pub struct Exchange<'a> {
     pub request: &'a [u8],
     pub reply: &'a [u8],
-    /// The fields whose sets it changed. Of the refuted exchange and those behind it there are none.
+    /// The fields whose sets it changed. Of the exchange at which the judge stops and those behind it there are none.
     pub told: Vec<Told>,
 }
 
-/// Why no controller gives the reply.
+/// Why the judge goes no further: a kept batch is asked for, or else no controller gives the reply.
 #[derive(Clone, Copy, PartialEq, Eq, Debug)]
 pub enum Reason {
+    KeptBatch,
     /// The request meets silence by this number.
     ReplyToSilence(u32),
     NoReply,
@@ -34,7 +35,8 @@ pub enum Reason {
     },
 }
 
-pub struct Refuted {
+/// The exchange at which the judge stops.
+pub struct Stop {
     pub place: usize,
     pub reason: Reason,
 }
@@ -44,10 +46,10 @@ pub struct Facts<'a> {
     pub address: u8,
     pub access: u8,
     pub exchanges: Vec<Exchange<'a>>,
-    pub refuted: Option<Refuted>,
+    pub stop: Option<Stop>,
     /// The set of each field of which nothing is known.
     pub unknown: [u32; FIELDS],
-    /// The set of each field at the end, or before the refuted exchange; and the exchange that gave it that set, or 0.
+    /// The set of each field at the end, or before the judge stops; and the exchange that gave it that set, or 0.
     pub sets: [u32; FIELDS],
     pub since: [usize; FIELDS],
 }
@@ -69,18 +71,26 @@ impl<'a> Facts<'a> {
         }
     }
 
-    /// Whether the answer rests on what the exchanges before told: not where a single exchange refutes, whatever the record.
+    /// Whether no controller gives all these replies; else they fit up to where the judge stops, if it does.
+    pub fn is_refuted(&self) -> bool {
+        let stop = self.stop.as_ref();
+        stop.is_some_and(|stop| stop.reason != Reason::KeptBatch)
+    }
+
+    /// Whether the answer rests on what the exchanges before told: not where a single exchange refutes, whatever the record,
+    /// nor where the first is not judged.
     pub fn rests_on_record(&self) -> bool {
-        match &self.refuted {
-            Some(refuted) => matches!(refuted.reason, Reason::Field { .. }),
+        match self.stop.as_ref().map(|stop| stop.reason) {
+            Some(Reason::KeptBatch) => self.learnt() > 0,
+            Some(reason) => matches!(reason, Reason::Field { .. }),
             None => true,
         }
     }
 
     /// How many exchanges were learnt from.
     pub fn learnt(&self) -> usize {
-        match &self.refuted {
-            Some(refuted) => refuted.place - 1,
+        match &self.stop {
+            Some(stop) => stop.place - 1,
             None => self.exchanges.len(),
         }
     }
@@ -98,7 +108,7 @@ pub fn facts(recording: &[u8]) -> Result<Facts<'_>, u32> {
         address,
         access,
         exchanges: Vec::new(),
-        refuted: refuted(recording),
+        stop: stop(recording),
         unknown: *begin.sets(),
         sets: *begin.sets(),
         since: [0; FIELDS],
@@ -107,9 +117,10 @@ pub fn facts(recording: &[u8]) -> Result<Facts<'_>, u32> {
     Ok(facts)
 }
 
-fn refuted(recording: &[u8]) -> Option<Refuted> {
+fn stop(recording: &[u8]) -> Option<Stop> {
     let (answer, why) = khuyapesh::why(recording);
     let reason = match answer {
+        khuyapesh::KEPT_BATCH => Reason::KeptBatch,
         khuyapesh::REPLY_TO_SILENCE => Reason::ReplyToSilence(why.number),
         khuyapesh::NO_REPLY => Reason::NoReply,
         khuyapesh::NO_RECORD => Reason::NoRecord,
@@ -120,22 +131,23 @@ fn refuted(recording: &[u8]) -> Option<Refuted> {
         },
         _ => return None,
     };
-    Some(Refuted {
+    Some(Stop {
         place: why.place,
         reason,
     })
 }
 
-/// Learns from the exchanges up to the refuted one.
+/// Learns from the exchanges up to the one at which the judge stops.
 fn follow<'a>(facts: &mut Facts<'a>, mut following: Following, recording: &'a [u8]) {
-    let end = facts.refuted.as_ref().map(|refuted| refuted.place);
+    let end = facts.stop.as_ref().map(|stop| stop.place);
     for (request, reply) in Exchanges::of(recording) {
         let number = facts.exchanges.len() + 1;
         let mut told = Vec::new();
         if end.is_none_or(|end| number < end) {
             let before = *following.sets();
-            assert!(
+            assert_eq!(
                 following.learn(request, reply),
+                khuyapesh::FITS,
                 "the library refutes exchange {number} and does not"
             );
             told = changes(&before, following.sets());
@@ -163,6 +175,7 @@ fn changes(before: &[u32; FIELDS], after: &[u32; FIELDS]) -> Vec<Told> {
 }
 
 /// What a record of no special kind with this address makes of a request: n of Sn, or the reply's text behind the address.
+/// No batches are kept beside it: a request for one, which is not judged, gets a reply that only says that it gets one.
 pub fn met_by(address: u8, request: &[u8]) -> Result<Vec<u8>, u32> {
     let mut record = [0; STORED_LENGTH];
     // Nothing is no stored record, and the low record is written.

@@ -25,12 +25,12 @@ impl Listed {
         self.from <= number && number <= self.to
     }
 
-    /// Those asked for and the refuted one, with what is left out between them.
-    pub fn of(self, count: usize, refuted: Option<usize>) -> Vec<Item> {
+    /// Those asked for and the one at which the judge stops, with what is left out between them.
+    pub fn of(self, count: usize, stop: Option<usize>) -> Vec<Item> {
         let mut items = Vec::new();
         let mut omitted = 0;
         for number in 1..=count {
-            if !self.has(number) && refuted != Some(number) {
+            if !self.has(number) && stop != Some(number) {
                 omitted += 1;
                 continue;
             }

@@ -116,10 +116,10 @@ struct Page<'a> {
 
 impl<'a> Page<'a> {
     fn of(facts: &'a Facts<'a>, listed: Listed) -> Page<'a> {
-        let refuted = facts.refuted.as_ref().map(|refuted| refuted.place);
+        let stop = facts.stop.as_ref().map(|stop| stop.place);
         Page {
             facts,
-            items: listed.of(facts.exchanges.len(), refuted),
+            items: listed.of(facts.exchanges.len(), stop),
         }
     }
 
@@ -134,7 +134,7 @@ impl<'a> Page<'a> {
     }
 
     fn answer(&self) -> String {
-        let class = if self.facts.refuted.is_some() {
+        let class = if self.facts.is_refuted() {
             "answer bad"
         } else {
             "answer"
@@ -201,9 +201,7 @@ impl<'a> Page<'a> {
                     capital(&omission(first, last))
                 )
             }
-            Item::Exchange(number) if number == self.facts.learnt() + 1 => {
-                self.refuted_rows(number)
-            }
+            Item::Exchange(number) if number == self.facts.learnt() + 1 => self.stop_rows(number),
             Item::Exchange(number) => self.row(number, "", &self.told(number)),
         }
     }
@@ -220,16 +218,21 @@ impl<'a> Page<'a> {
         )
     }
 
-    fn refuted_rows(&self, number: usize) -> String {
+    fn stop_rows(&self, number: usize) -> String {
         let why = reasons::explanation(self.facts).unwrap_or_default();
+        let open = if self.facts.is_refuted() { "" } else { " open" };
         let nothing_after = if number < self.facts.exchanges.len() {
             format!(" {}", verdict::NOTHING_AFTER)
         } else {
             String::new()
         };
         format!(
-            "{}<tr class=\"why\"><td colspan=\"4\">{}{nothing_after}</td></tr>\n",
-            self.row(number, " class=\"refuted\"", "REFUTED"),
+            "{}<tr class=\"why{open}\"><td colspan=\"4\">{}{nothing_after}</td></tr>\n",
+            self.row(
+                number,
+                &format!(" class=\"stop{open}\""),
+                verdict::stopped(self.facts)
+            ),
             self.parts(&why)
         )
     }
@@ -237,10 +240,10 @@ impl<'a> Page<'a> {
     fn told(&self, number: usize) -> String {
         let told = &self.facts.exchange(number).told;
         if number > self.facts.learnt() {
-            return String::new();
+            return quiet(verdict::behind(self.facts));
         }
         if told.is_empty() {
-            return "<span class=\"quiet\">nothing new</span>".to_string();
+            return quiet("nothing new");
         }
         let told: Vec<String> = told.iter().map(|&told| self.fact(number, told)).collect();
         told.join("; ")
@@ -326,6 +329,13 @@ impl<'a> Page<'a> {
             .map(|(code, meaning)| format!("<dt><code>{code}</code></dt><dd>{meaning}</dd>\n"))
             .collect();
         format!("<section>\n<h2>The codes used here</h2>\n<dl class=\"codes\">\n{rows}</dl>\n</section>\n")
+    }
+}
+
+fn quiet(words: &str) -> String {
+    match words {
+        "" => String::new(),
+        words => format!("<span class=\"quiet\">{words}</span>"),
     }
 }
 
@@ -417,6 +427,20 @@ mod tests {
         let one = page(Listed { from: 1, to: 1 });
         assert!(one.contains("<td>exchange 2 (<code>RR, RR 03</code>)</td>"));
         assert!(one.contains("Exchange 2 is not listed"));
+    }
+
+    #[test]
+    fn exchanges_that_are_not_judged() {
+        let kept = ("RT R 001", "RT R 00000500 001");
+        let bytes = recording_of(&[("RR", "RR 03"), kept, ("RR", "RR 04")]);
+        let page = |listed| page(&input("a", &bytes), listed);
+        let all = page(Listed::ALL);
+        assert!(all.contains("<title>a: not judged at 2</title>") && !all.contains("REFUTED"));
+        assert!(all.contains("<tr id=\"exchange-2\" class=\"stop open\">"));
+        assert!(all.contains("<td class=\"facts\"><span class=\"quiet\">not judged</span></td>"));
+        assert!(all.contains("as far as it is known before exchange 2"));
+        let one = page(Listed { from: 1, to: 1 });
+        assert!(one.contains("id=\"exchange-2\"") && !one.contains("id=\"exchange-3\""));
     }
 
     #[test]

@@ -1,4 +1,4 @@
-//! Why the refuted exchange is one.
+//! Why the judge stops at an exchange: it is refuted, or not judged.
 
 use crate::codes;
 use crate::facts::{self, Exchange, Facts, Reason, Told};
@@ -12,12 +12,13 @@ pub enum Part {
     Exchange(usize),
 }
 
-/// The whole explanation, if the recording is refuted.
+/// The whole explanation, if the judge stops.
 pub fn explanation(facts: &Facts) -> Option<Vec<Part>> {
-    let refuted = facts.refuted.as_ref()?;
-    let exchange = facts.exchange(refuted.place);
-    let mut parts = vec![Part::Exchange(refuted.place), Part::Text(": ".to_string())];
-    match refuted.reason {
+    let stop = facts.stop.as_ref()?;
+    let exchange = facts.exchange(stop.place);
+    let mut parts = vec![Part::Exchange(stop.place), Part::Text(": ".to_string())];
+    match stop.reason {
+        Reason::KeptBatch => parts.push(Part::Text(kept_batch(facts, exchange))),
         Reason::ReplyToSilence(number) => {
             parts.push(Part::Text(not_silent(facts, exchange, number)))
         }
@@ -75,6 +76,14 @@ fn since(facts: &Facts, field: usize) -> Vec<Part> {
             Part::Text(format!(" ({})", said(facts, number))),
         ],
     }
+}
+
+fn kept_batch(facts: &Facts, exchange: &Exchange) -> String {
+    format!(
+        "{} asks for a finished batch that is kept beside the record. A recording begins with whatever batches are kept by \
+         then and does not say which, so what comes back is not judged, whatever it is.",
+        asked(facts, exchange)
+    )
 }
 
 fn not_silent(facts: &Facts, exchange: &Exchange, number: u32) -> String {
@@ -172,7 +181,7 @@ mod tests {
 
     fn explained_bytes(bytes: &[u8]) -> String {
         let facts = facts::facts(bytes).expect("it is a recording");
-        words(&explanation(&facts).expect("it is refuted"))
+        words(&explanation(&facts).expect("the judge stops"))
     }
 
     #[test]
@@ -266,6 +275,41 @@ mod tests {
             explained_frames(frame("01EQ"), vec![]),
             "exchange 1: the controller kept silent, but a correct controller at address 1 replies to EQ, whatever its \
              state."
+        );
+    }
+
+    #[test]
+    fn kept_batches() {
+        let why = "asks for a finished batch that is kept beside the record. A recording begins with whatever batches are \
+                   kept by then and does not say which, so what comes back is not judged, whatever it is.";
+        assert_eq!(
+            explained(&[("EQ", "000000"), ("RT R 002", "RT R 00000500 002")]),
+            format!("exchange 2: RT R 002 {why}")
+        );
+        // Though no controller keeps a batch 000, or is silent.
+        assert_eq!(
+            explained(&[("RT R 000", "NO01")]),
+            format!("exchange 1: RT R 000 {why}")
+        );
+        assert_eq!(
+            explained_frames(frame("01RT R 101"), vec![]),
+            format!("exchange 1: RT R 101 {why}")
+        );
+        // What refutes stands before it.
+        assert_eq!(
+            explained(&[("NR 03", "OK"), ("RR", "RR 04"), ("RT R 001", "NO03")]),
+            "exchange 2: RR shows recipe 4. Since exchange 1 (NR 03, OK) the recipe can only be 3."
+        );
+    }
+
+    #[test]
+    fn kept_batches_that_meet_silence() {
+        let mut damaged = frame("01RT R 001");
+        damaged[9] ^= 1;
+        assert_eq!(
+            explained_frames(damaged, frame("01RT R 00000500 001")),
+            "exchange 1: the controller replied RT R 00000500 001, but a correct controller at address 1 keeps silent at \
+             this request: its check character is wrong (S5)."
         );
     }
 

@@ -17,8 +17,8 @@ pub struct Row {
 
 /// Up to which exchange this is known.
 pub fn title(facts: &Facts) -> String {
-    let when = match (&facts.refuted, facts.exchanges.len()) {
-        (Some(refuted), _) => format!("before exchange {}", refuted.place),
+    let when = match (&facts.stop, facts.exchanges.len()) {
+        (Some(stop), _) => format!("before exchange {}", stop.place),
         (None, 0) => "from the header alone".to_string(),
         (None, last) => format!("after exchange {last}"),
     };

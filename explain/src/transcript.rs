@@ -36,10 +36,10 @@ pub fn transcript(input: &Input, listed: Listed) -> String {
     }
 }
 
-/// The exchanges, one to a line, and the explanation behind the refuted one.
+/// The exchanges, one to a line, and the explanation behind the one at which the judge stops.
 fn exchanges(facts: &Facts, listed: Listed) -> String {
-    let refuted = facts.refuted.as_ref().map(|refuted| refuted.place);
-    let items = listed.of(facts.exchanges.len(), refuted);
+    let stop = facts.stop.as_ref().map(|stop| stop.place);
+    let items = listed.of(facts.exchanges.len(), stop);
     if items.is_empty() {
         return String::new();
     }
@@ -55,8 +55,8 @@ fn exchanges(facts: &Facts, listed: Listed) -> String {
     let mut text = laid_out(&lines[0], widths);
     for (item, line) in items.iter().zip(&lines[1..]) {
         text += &laid_out(line, widths);
-        if matches!(item, Item::Exchange(number) if Some(*number) == refuted) {
-            text += &refutation(facts);
+        if matches!(item, Item::Exchange(number) if Some(*number) == stop) {
+            text += &explanation(facts);
         }
     }
     text
@@ -83,8 +83,8 @@ fn line(facts: &Facts, item: Item) -> Line {
 fn told(facts: &Facts, number: usize) -> String {
     let told = &facts.exchange(number).told;
     match number {
-        _ if number == facts.learnt() + 1 => "REFUTED".to_string(),
-        _ if number > facts.learnt() => String::new(),
+        _ if number == facts.learnt() + 1 => verdict::stopped(facts).to_string(),
+        _ if number > facts.learnt() => verdict::behind(facts).to_string(),
         _ if told.is_empty() => "nothing new".to_string(),
         _ => {
             let told: Vec<String> = told.iter().map(|&told| fields::news(facts, told)).collect();
@@ -110,13 +110,18 @@ fn laid_out([number, request, reply, told]: &Line, widths: [usize; 3]) -> String
     format!("{}\n", line.trim_end())
 }
 
-fn refutation(facts: &Facts) -> String {
+fn explanation(facts: &Facts) -> String {
     let mut lines = Vec::new();
     if let Some(parts) = reasons::explanation(facts) {
         lines.push(reasons::words(&parts));
     }
     if facts.rests_on_record() {
-        lines.push(verdict::CONDITION.to_string());
+        let said = if facts.is_refuted() {
+            verdict::CONDITION
+        } else {
+            verdict::BEFORE_FITS
+        };
+        lines.push(said.to_string());
     }
     if facts.learnt() + 1 < facts.exchanges.len() {
         lines.push(verdict::NOTHING_AFTER.to_string());
@@ -147,7 +152,7 @@ fn known(facts: &Facts) -> String {
     if let Some(unknown) = record::unknown_parameters(facts) {
         text += &format!("  {unknown}\n");
     }
-    let is_said = facts.refuted.is_some() && facts.rests_on_record();
+    let is_said = facts.is_refuted() && facts.rests_on_record();
     if facts.learnt() > 0 && !is_said {
         text += &format!("  {}\n", verdict::CONDITION);
     }

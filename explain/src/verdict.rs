@@ -1,6 +1,6 @@
 //! The judge's answer, and what it means.
 
-use crate::facts::Facts;
+use crate::facts::{Facts, Reason};
 use crate::files::LONGEST;
 use khuyapesh::Exchanges;
 
@@ -8,30 +8,61 @@ use khuyapesh::Exchanges;
 pub fn answer(facts: &Result<Facts, u32>) -> String {
     match facts {
         Err(number) => format!("refused J{number}"),
-        Ok(facts) => match &facts.refuted {
+        Ok(facts) => match &facts.stop {
             None => format!("fits {}", facts.exchanges.len()),
-            Some(refuted) => format!("refuted at {} of {}", refuted.place, facts.exchanges.len()),
+            Some(stop) if stop.reason == Reason::KeptBatch => {
+                format!("not judged at {}", stop.place)
+            }
+            Some(stop) => format!("refuted at {} of {}", stop.place, facts.exchanges.len()),
         },
     }
 }
 
 /// What the answer says, and what it does not.
 pub fn meaning(facts: &Facts) -> String {
-    match &facts.refuted {
+    match &facts.stop {
         None => "A correct controller could have given all these replies. That does not say that this controller is \
                  right, only that nothing in the recording shows it to be wrong."
             .to_string(),
-        Some(refuted) => format!(
+        Some(stop) if stop.reason == Reason::KeptBatch => match stop.place {
+            1 => format!("Nothing in this recording is judged{NEITHER}"),
+            place => format!(
+                "A correct controller could have given the replies before exchange {place}. From there on nothing is \
+                 judged{NEITHER}"
+            ),
+        },
+        Some(stop) => format!(
             "No correct controller could have answered the requests up to exchange {} as recorded, whatever its state \
              when the recording began.",
-            refuted.place
+            stop.place
         ),
+    }
+}
+
+const NEITHER: &str = ", neither for this controller nor against it.";
+
+/// What stands in the list at the exchange at which the judge stops, and at those behind it.
+pub fn stopped(facts: &Facts) -> &'static str {
+    if facts.is_refuted() {
+        "REFUTED"
+    } else {
+        "NOT JUDGED"
+    }
+}
+
+pub fn behind(facts: &Facts) -> &'static str {
+    if facts.is_refuted() {
+        ""
+    } else {
+        "not judged"
     }
 }
 
 /// What all that is told rests on.
 pub const CONDITION: &str =
     "This holds if nothing but these requests acted on the controller meanwhile: no panel, no pulses, no power failure.";
+
+pub const BEFORE_FITS: &str = "The exchanges before it fit.";
 
 pub const NOTHING_AFTER: &str = "Nothing is concluded from the exchanges after it.";
 
@@ -86,6 +117,7 @@ pub fn size(bytes: &[u8]) -> String {
 mod tests {
     use super::*;
     use crate::facts;
+    use crate::sample::recording_of;
 
     #[test]
     fn answers() {
@@ -96,6 +128,34 @@ mod tests {
             "refuted at 1 of 1"
         );
         assert_eq!(answer(&facts::facts(&[])), "refused J1");
+    }
+
+    #[test]
+    fn recordings_that_are_not_judged_to_their_end() {
+        let judged = |texts: &[(&str, &str)]| {
+            let bytes = recording_of(texts);
+            let facts = facts::facts(&bytes);
+            let meaning = meaning(facts.as_ref().expect("it is a recording"));
+            (answer(&facts), meaning)
+        };
+        let kept = ("RT R 001", "RT R 00000500 001");
+        let (answer, meaning) = judged(&[kept, ("EQ", "000000")]);
+        assert_eq!(answer, "not judged at 1");
+        assert_eq!(
+            meaning,
+            "Nothing in this recording is judged, neither for this controller nor against it."
+        );
+        let (answer, meaning) = judged(&[("EQ", "000000"), kept, ("TN", "TN 0000")]);
+        assert_eq!(answer, "not judged at 2");
+        assert_eq!(
+            meaning,
+            "A correct controller could have given the replies before exchange 2. From there on nothing is judged, \
+             neither for this controller nor against it."
+        );
+        let (answer, _) = judged(&[("TN", "TN 0000"), kept]);
+        assert_eq!(answer, "refuted at 1 of 2");
+        let (answer, _) = judged(&[("RT R 1", "NO01"), ("RT G 001", "NO01")]);
+        assert_eq!(answer, "fits 2");
     }
 
     #[test]

@@ -63,7 +63,7 @@ impl Telling<'_> {
             return (0..=count + 2).chain([usize::MAX]).collect();
         }
         let mut asked = vec![0, 1, count / 2, count - 1, count, count + 1, usize::MAX];
-        if let Some(place) = self.told.refuted_at() {
+        if let Some(place) = self.told.ended_at() {
             asked.extend([place - 1, place, place + 1]);
         }
         asked.sort_unstable();
@@ -149,21 +149,25 @@ impl Telling<'_> {
         let mut before = None;
         self.followed(0, &sets, &following, &mut before)?;
         for (place, exchange) in self.exchanges.iter().enumerate().take(FOLLOWED) {
-            let learnt = self.learn(&mut sets, *exchange, place)?;
-            if following.learn(exchange.request, exchange.reply) != learnt {
-                return Err(format!("exchange {} followed: {}", place + 1, !learnt));
+            let answer = self.learn(&mut sets, *exchange, place)?;
+            let followed = following.learn(exchange.request, exchange.reply);
+            if followed != answer {
+                return Err(format!(
+                    "exchange {} followed: {followed}, but learnt: {answer}",
+                    place + 1
+                ));
             }
-            let known = place + usize::from(learnt);
+            let known = place + usize::from(answer == 0);
             self.followed(known, &sets, &following, &mut before)?;
-            if !learnt {
+            if answer != 0 {
                 return Ok(place as u64 + 1);
             }
         }
         Ok(self.exchanges.len().min(FOLLOWED) as u64)
     }
 
-    /// One exchange over sets that are lent; answers whether it was learnt from.
-    fn learn(&self, sets: &mut Written, exchange: Exchange, place: usize) -> Result<bool, String> {
+    /// One exchange over sets that are lent; answers 0 if it was learnt from.
+    fn learn(&self, sets: &mut Written, exchange: Exchange, place: usize) -> Result<u32, String> {
         let learn = |lent: &mut Lent<u32>| {
             let [address, access] = [self.recording[3], self.recording[4]];
             library::learn(
@@ -174,7 +178,10 @@ impl Telling<'_> {
                 lent.slice(),
             )
         };
-        let expected = u32::from(self.told.refuted_at() == Some(place + 1));
+        let expected = match self.told.ended_at() == Some(place + 1) {
+            true => 1 + u32::from(self.told.is_not_judged()),
+            false => 0,
+        };
         let rooms = [FIELDS + place % 3, [0, FIELDS - 1][place % 2]];
         let [room, short] = rooms.map(|room| lent_from(sets, room));
         let [mut after, mut after_short] = [room.clone(), short.clone()];
@@ -191,7 +198,7 @@ impl Telling<'_> {
         if expected == 0 {
             *sets = written(&room, &after)?;
         }
-        Ok(expected == 0)
+        Ok(expected)
     }
 
     /// The sets that were learnt are those that are known, and those of a line that was followed; and
@@ -222,7 +229,7 @@ impl Telling<'_> {
         }
     }
 
-    /// Why it is refuted; answers the library's answer.
+    /// Why it is refuted, or not judged; answers the library's answer.
     fn explained(&self) -> Result<u32, String> {
         let (answer, why) = library::why(self.recording);
         let (own_answer, place, number, sets) = interface::why(self.told, self.fault);
@@ -287,7 +294,7 @@ impl Telling<'_> {
 
 impl Comparison {
     /// Compares all that a recording tells: what is known after its exchanges and since which of them,
-    /// why it is refuted, and where its exchanges are.
+    /// why it is refuted or not judged, and where its exchanges are.
     pub fn told(&mut self, recording: &[u8]) -> Result<(), Difference> {
         let told = Told::by(recording, self.fault);
         let (exchanges, _) = recording::exchanges(recording.get(5..).unwrap_or_default());
@@ -313,7 +320,7 @@ impl Comparison {
         let answer = telling.explained().map_err(differs)?;
         telling.walked().map_err(differs)?;
         self.count_told(known, learnt, answer);
-        match told.refuted_at() {
+        match told.ended_at() {
             Some(place) if well_formed => {
                 self.learn(recording, place - 1, telling.exchanges[place - 1])
             }

@@ -19,8 +19,8 @@ fn record(place: usize) -> Record {
     let mut record = Record {
         address: address(place),
         access: place as u8 % 4,
-        changed: place % 3 == 0,
-        flow: place % 2 == 0,
+        changed: place % 3 == 2,
+        flow: place % 2 == 1,
         recipe: 1 + place as u8 % 8,
         number: 100 + place as u16,
         alarms: place as u32,

@@ -33,7 +33,7 @@ const TELLING_TEXTS: [&str; 61] = [
 ];
 
 /// Those, and each code with nothing, with too little and with too much behind it.
-fn telling_texts() -> Vec<String> {
+pub fn telling_texts() -> Vec<String> {
     let mut texts: Vec<String> = TELLING_TEXTS.map(String::from).to_vec();
     for code in CODES {
         let code = String::from_utf8_lossy(code);

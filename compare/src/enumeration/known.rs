@@ -9,7 +9,7 @@ use crate::fault::Fault;
 use crate::fields::{ANY, ANY_ALARMS, LASTING_ALARMS};
 use crate::frame::{self, Kind};
 use crate::generate::recordings::Exchanges;
-use crate::parameters::{parameter_code, PARAMETERS, VALUE_RANGES};
+use crate::parameters::{parameter_code, VALUE_RANGES};
 use crate::recording::{self, Exchange};
 
 /// Every command, with the replies that a right one may give.
@@ -124,9 +124,8 @@ fn every_reply(comparison: &mut Comparison) -> Result<(), Difference> {
 
 /// Each parameter's value and level shown, or written, and then shown otherwise.
 fn every_parameter(comparison: &mut Comparison) -> Result<(), Difference> {
-    for place in 0..PARAMETERS {
+    for (place, (low, high)) in VALUE_RANGES.into_iter().enumerate() {
         let code = parameter_code(place);
-        let (low, high) = VALUE_RANGES[place];
         let shown = |value: u32| (format!("PV {code:03}"), format!("PV {code:03} {value:08}"));
         let level = |level: u32| (format!("XV {code:03}"), format!("XV {code:03} {level}"));
         let ok = |text: String| (text, "OK".to_string());
@@ -140,7 +139,7 @@ fn every_parameter(comparison: &mut Comparison) -> Result<(), Difference> {
             [ok(format!("XC {code:03} 0")), level(1)],
             [level(3), ok(format!("PC {code:03} {high}"))],
         ] {
-            let pair = [&[state.clone()], &pair[..]].concat();
+            let pair = [std::slice::from_ref(&state), &pair[..]].concat();
             let exchanges: Exchanges = pair
                 .iter()
                 .map(|(command, reply)| telling_exchange(1, command, reply))
@@ -218,7 +217,7 @@ fn every_silence(comparison: &mut Comparison) -> Result<(), Difference> {
         for reply in ["", "OK", "NO00", "000000"] {
             let (_, reply) = telling_exchange(1, "EQ", reply);
             let exchange = (request.clone(), reply);
-            comparison.told(&recording::build(1, 2, &[exchange.clone()]))?;
+            comparison.told(&recording::build(1, 2, std::slice::from_ref(&exchange)))?;
             comparison.told(&recording::build(1, 2, &[before.clone(), exchange]))?;
         }
     }

@@ -1,10 +1,11 @@
 //! What is enumerated and not sampled: every refusal against every phase, keypad, access and level,
 //! every combination of damages to a frame, every byte of a stored form, every parameter code, every
-//! alarm, every parameter rewritten, every pair of telling exchanges, every cut of a stream, every
-//! place on a board, every damage to a reply in a drum change, every reply to every command where much or
-//! nothing is known.
+//! alarm, every parameter rewritten, every pair of telling exchanges, every cut of a stream, every kept
+//! batch that can be asked for, every place on a board, every damage to a reply in a drum change, every
+//! reply to every command where much or nothing is known.
 
 mod alarms;
+mod bank;
 mod board;
 mod calls;
 mod changed;
@@ -15,6 +16,7 @@ mod parameters;
 mod recordings;
 mod records;
 mod several;
+mod unjudged;
 
 use crate::comparison::{Comparison, Difference};
 use crate::frame::{self, Kind};
@@ -27,6 +29,7 @@ pub fn enumerate(comparison: &mut Comparison) -> Result<(), Difference> {
     recordings::changed_recordings(comparison)?;
     recordings::alarm_recordings(comparison)?;
     recordings::recordings(comparison)?;
+    unjudged::unjudged(comparison)?;
     changed::rewritten_values(comparison)?;
     calls::refusals(comparison)?;
     parameters::parameters(comparison)?;
@@ -42,6 +45,7 @@ pub fn enumerate(comparison: &mut Comparison) -> Result<(), Difference> {
     alarms::alarm_calls(comparison)?;
     alarms::alarm_events(comparison)?;
     alarms::stored_alarms(comparison)?;
+    bank::banks(comparison)?;
     board::boards(comparison)?;
     drum::drum_changes(comparison)?;
     known::tellings(comparison)

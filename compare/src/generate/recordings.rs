@@ -43,6 +43,13 @@ fn honest(random: &mut Random, count: usize) -> (u8, u8, Exchanges) {
     (record.address, record.access, exchanges)
 }
 
+/// A recording of up to so many exchanges with one record, of any requests.
+pub fn honest_recording(random: &mut Random, most: usize) -> Vec<u8> {
+    let count = random.below(most + 1);
+    let (address, access, exchanges) = honest(random, count);
+    recording::build(address, access, &exchanges)
+}
+
 /// Another reply that a controller might have given.
 pub fn another_reply(random: &mut Random, address: u8, reply: &[u8]) -> Vec<u8> {
     let Ok(text) = frame::open(Kind::Minicomputer, reply, Fault::None) else {

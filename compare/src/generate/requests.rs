@@ -3,9 +3,9 @@
 use crate::command::CODES;
 use crate::frame::{self, Kind};
 use crate::generate::records;
-use crate::parameters::{parameter_code, VALUE_RANGES};
+use crate::parameters::{factor_place, parameter_code, VALUE_RANGES};
 use crate::random::Random;
-use crate::record::Record;
+use crate::record::{Phase, Record};
 
 /// A number printed in its least width or wider.
 fn printed(random: &mut Random, number: u32, most: usize) -> String {
@@ -106,6 +106,62 @@ pub fn command_of_document_01(random: &mut Random) -> String {
         19 => "ET".into(),
         20 => format!("RE {}", random.pick(&["BD", "PC"])),
         _ => format!("RE {}", random.pick(&["PF", "BD", "TD"])),
+    }
+}
+
+/// Any command to a unit with a bank: many ask for kept batches, and many bring a batch on.
+pub fn banked_command(random: &mut Random, record: &Record) -> String {
+    match random.below(10) {
+        0..=2 => kept_batch(random),
+        3..=7 => next_of_batch(random, record),
+        _ => command(random, record),
+    }
+}
+
+/// RT R NNN, or a text that is near to it.
+pub fn kept_batch(random: &mut Random) -> String {
+    let number = match random.below(4) {
+        0 => random.below(4),
+        1 => random.pick(&[50, 98, 99, 100, 101, 102, 200, 255, 256, 257, 356, 999]),
+        2 => random.below(103),
+        _ => random.below(1_000),
+    };
+    match random.below(24) {
+        0 => "RT R".into(),
+        1 => format!("RT {} {number:03}", random.pick(b"GNPMXr ") as char),
+        2 => format!("RT R {number}"),
+        3 => format!("RT R {number:04}"),
+        4 => format!("RT R {number:02}"),
+        5 => random
+            .pick(&[
+                "RT R ",
+                "RT R 0A1",
+                "RT R  001",
+                "RT R001",
+                "RT 001",
+                "RT R -01",
+            ])
+            .into(),
+        6 => format!("RT R {number:03}{}", random.pick(&[" ", "0", " 1", "X"])),
+        _ => format!("RT R {number:03}"),
+    }
+}
+
+/// What brings a batch on from its phase, or ends it; or one of these by chance.
+fn next_of_batch(random: &mut Random, record: &Record) -> String {
+    if random.percent(25) {
+        return random.pick(&["SB 9", "SA", "SP", "ET"]).into();
+    }
+    match record.phase {
+        Phase::Idle if random.percent(25) => {
+            let code = parameter_code(factor_place(record.recipe));
+            format!("PC {code:03} {}", random.between(8_000, 12_000))
+        }
+        Phase::Idle => format!("SB {}", random.between(1, 100)),
+        Phase::Set => random.pick(&["SA", "SA", "ET", "AR"]).into(),
+        Phase::Running => "SP".into(),
+        Phase::Stopped => random.pick(&["ET", "ET", "SA"]).into(),
+        Phase::Done => random.pick(&["ET", "ET", "ET", "SB 5"]).into(),
     }
 }
 

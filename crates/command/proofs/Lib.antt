@@ -4,3 +4,4 @@ pub mod Agree
 pub mod Fits
 pub mod Serving
 pub mod Alarms
+pub mod Beside

@@ -8,7 +8,7 @@ use Rattle.base.specs.Test.{pick}
 use Rattle.state.specs.Field.{address, get}
 use Rattle.text.specs.Word.{digits}
 use Rattle.command.specs.Commands.{commands, codeIn, rowOf, Arguments, printed, applied}
-use Rattle.command.specs.Refusals.{Row, applies, rowNumber, refusals, argumentsFor}
+use Rattle.command.specs.Refusals.{Row, applies, rowNumber, refusals, refusalsBeside, argumentsFor}
 
 -- NOnn, or accepted
 pub data Verdict : Type 0 where
@@ -29,6 +29,10 @@ firstOf (row ∷ rows) c xs r = pick (applies row c xs r) (NO (rowNumber row)) (
 
 unfoldable pub verdict : List ℕ → Record → Verdict
 verdict t r = firstOf refusals (codeIn t) (behindCode t) r
+
+-- with a bank of n batches beside the record
+unfoldable pub verdictBeside : ℕ → List ℕ → Record → Verdict
+verdictBeside n t r = firstOf (refusalsBeside n) (codeIn t) (behindCode t) r
 
 -- "reply NO and two digits, record unchanged"
 abbrev pub refusalText : ℕ → List ℕ

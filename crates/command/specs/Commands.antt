@@ -1,5 +1,5 @@
--- Document 01, "Commands", first table, with the rows of 02, L1, and PC's flag by 02, L2: each request's code, the form of its arguments, its
--- reply if accepted, and its effect.
+-- Document 01, "Commands", first table, with the rows of 02, L1, PC's flag by 02, L2, and what a bank adds by 02, L7: each request's code, the
+-- form of its arguments, its reply if accepted, and its effect.
 use Prim.Native.Nat.{ℕ, _+_, _*_}
 use mathlib.Core.Bool.{Bool, true, false, _&&_}
 use mathlib.Core.List.{List, [], _∷_, _++_}
@@ -10,10 +10,10 @@ use Rattle.state.specs.declared.Record.{Record}
 use Rattle.state.specs.declared.ParameterKind.the-variants.{Factor}
 use Rattle.state.specs.declared.Place.{Place}
 use Rattle.state.specs.declared.Place.the-variants.{At, Nothing}
-use Rattle.base.specs.Test.{pick, between}
+use Rattle.base.specs.Test.{pick, between, member}
 use Rattle.state.specs.Parameter.{parameterCount, placeOf, codeAt, recipePlace}
 use Rattle.state.specs.Field.{Field, phase, changed, reset, recipe, preset, raw, number, alarms, value, level, get, put, on, off}
-use Rattle.state.specs.Event.{idle, set, running, stopped, nextNumber, alarmsReset, replaced}
+use Rattle.state.specs.Event.{idle, set, running, stopped, done, nextNumber, alarmsReset, replaced}
 use Rattle.text.specs.Word.{space, digits, allDigits, valueOf, equal, oneOf}
 use Rattle.command.specs.Status.{statusCharacters, alarmCharacters, statusCodes, codesOn}
 
@@ -251,7 +251,27 @@ commands =
     ∷ writes AR nothing (λ a. resetAlarms ∷ [])
     ∷ []
 
--- the row of a code; the last entry stands for a code that is not in the table, which no request that is accepted has
+-- ---- with a bank of finished batches beside the record (02, L7) there is one row more,
+-- | RT R NNN | RT R VVVVVVVV NNN | |
+-- and an accepted ET stores a batch; without one "document 01 gave NO01, and other letters with NNN still get it"
+
+-- "RT R NNN": the code, and what stands behind it
+unfoldable pub batchAsked : ℕ → List ℕ → Bool
+batchAsked c xs = eqb c RT && (equal (take 3 xs) (text " R ") && digitsBetween 3 3 (drop 3 xs))
+
+-- NNN
+abbrev pub batchNumber : List ℕ → ℕ
+batchNumber xs = valueOf (drop 3 xs)
+
+-- "RT R VVVVVVVV NNN": the raw volume v of the n-th newest
+abbrev pub batchShown : ℕ → ℕ → List ℕ
+batchShown v n = (text "RT R " ++ digits 8 v) ++ (space ∷ digits 3 n)
+
+-- "At ET from Stopped or Done store ..": the code, and the phase before it
+abbrev pub storesBatch : ℕ → ℕ → Bool
+storesBatch c p = eqb c ET && member p (stopped ∷ done ∷ [])
+
+-- ---- the row of a code; the last entry stands for a code that is not in the table, which no request that is accepted has
 unfoldable pub rowOf : ℕ → List Command → Command
 rowOf c [] = reads c nothing (λ a. acknowledged)
 rowOf c (k ∷ ks) = pick (eqb c (k .code)) k (rowOf c ks)

@@ -1,18 +1,18 @@
--- Document 01, "Commands", second table, with the rows of 02, L1: the refusals, "first that applies".
+-- Document 01, "Commands", second table, with the rows of 02, L1 and L7: the refusals, "first that applies".
 use Prim.Native.Nat.{ℕ}
 use mathlib.Core.Bool.{Bool, not, _&&_, _||_}
-use mathlib.Core.List.{List, [], _∷_, map}
+use mathlib.Core.List.{List, [], _∷_, _++_, map}
 use lib.Dec.{eqb, ltb}
 use Rattle.base.specs.Text.{text}
 use Rattle.state.specs.declared.Record.{Record}
-use Rattle.base.specs.Test.{pick, member}
+use Rattle.base.specs.Test.{pick, between, member}
 use Rattle.state.specs.Parameter.{parameterCount, rangeAt}
 use Rattle.state.specs.Alarm.{noAlarm}
 use Rattle.state.specs.Field.{Field, access, phase, keypad, recipe, alarms, level, get, fieldRange, on}
 use Rattle.state.specs.Valid.{within}
 use Rattle.state.specs.Event.{idle, set, running, stopped, done}
 use Rattle.text.specs.Word.{oneOf}
-use Rattle.command.specs.Commands.{RT, PV, XV, PC, XC, NR, SB, SA, SP, ET, RE, AR, Command, commands, rowOf, formed, Arguments, argumentsOf, behindSpace}
+use Rattle.command.specs.Commands.{RT, PV, XV, PC, XC, NR, SB, SA, SP, ET, RE, AR, Command, commands, rowOf, formed, Arguments, argumentsOf, behindSpace, batchAsked, batchNumber}
 
 -- a row: its number, and when it applies to a code c: by what stands behind the code; by the arguments x there; or, for some codes, by the
 -- number n that one field of the record holds, on a link of access a
@@ -53,6 +53,14 @@ notServed c xs =
 abbrev pub malformed : ℕ → List ℕ → Bool
 malformed c xs = not (formed (rowOf c commands .form) xs) && not (notServed c xs)
 
+-- with a bank RT R NNN is of the form
+abbrev pub malformedBeside : ℕ → List ℕ → Bool
+malformedBeside c xs = malformed c xs && not (batchAsked c xs)
+
+-- NO03 "if fewer than NNN are kept or NNN is 000"; n are kept
+abbrev pub notKept : ℕ → ℕ → List ℕ → Bool
+notKept n c xs = batchAsked c xs && not (between 1 n (batchNumber xs))
+
 -- NO04 "parameter code not in the list (PV, XV, PC, XC)"
 abbrev pub listed : ℕ → Bool
 listed i = ltb i parameterCount
@@ -91,16 +99,26 @@ abbrev pub anAlarmOn : ℕ → Arguments → ℕ → ℕ → Bool
 anAlarmOn c x a n = not (eqb n noAlarm)
 
 -- | reply | when |
-abbrev pub refusals : List Row
-refusals =
+-- with the test for NO01, and the row that a bank adds: "NO03, after NO30"
+abbrev pub refusalsWith : (ℕ → List ℕ → Bool) → List Row → List Row
+refusalsWith wrongForm kept =
     byText 0 unknownCode
-    ∷ byText 1 malformed
+    ∷ byText 1 wrongForm
     ∷ byText 8 notServed
     ∷ byArguments 4 unknownParameter
     ∷ byArguments 30 unknownRecipe
-    ∷ byArguments 6 outOfRange
+    ∷ kept
+    ++ byArguments 6 outOfRange
     ∷ byField 2 (PC ∷ XC ∷ NR ∷ SB ∷ SA ∷ ET ∷ RE ∷ AR ∷ []) (λ x. keypad) keypadTaken
     ∷ byField 7 (PC ∷ XC ∷ []) (λ x. level (x .place)) levelAbove
     ∷ byField 5 (PC ∷ NR ∷ SB ∷ SA ∷ SP ∷ ET ∷ []) (λ x. phase) wrongPhase
     ∷ byField 9 (SA ∷ []) (λ x. alarms) anAlarmOn
     ∷ []
+
+-- without a bank
+abbrev pub refusals : List Row
+refusals = refusalsWith malformed []
+
+-- with a bank of n batches
+abbrev pub refusalsBeside : ℕ → List Row
+refusalsBeside n = refusalsWith malformedBeside (byText 3 (notKept n) ∷ [])

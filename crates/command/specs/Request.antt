@@ -27,9 +27,11 @@ use Rattle.command.specs.declared.Answer.the-variants as answer
 use Rattle.command.specs.declared.Phases.{Phases}
 use Rattle.command.specs.declared.Phases.the-variants as phases
 use Rattle.command.specs.declared.Guards.{Guards}
+use Rattle.command.specs.declared.BatchAsked.{BatchAsked}
+use Rattle.command.specs.declared.BatchAsked.the-variants as asksFor
 use Rattle.command.specs.declared.Numbers.{Numbers}
 use Rattle.command.specs.declared.Numbers.the-variants as numbersRead
-use Rattle.command.specs.Commands.{EQ, RS, TN, RR, RC, RT, PV, XV, PC, XC, NR, SB, SA, SP, ET, RE, EA, AR, codeIn, Form, numbers, formed, Arguments, none, aPlace, aWord, placeBehind, lastBehind, Reply, acknowledged, printed, Change, applied, commands, rowOf}
+use Rattle.command.specs.Commands.{EQ, RS, TN, RR, RC, RT, PV, XV, PC, XC, NR, SB, SA, SP, ET, RE, EA, AR, codeIn, Form, numbers, formed, Arguments, none, aPlace, aWord, placeBehind, lastBehind, Reply, acknowledged, printed, Change, applied, commands, rowOf, batchAsked, batchNumber}
 use Rattle.command.specs.Refusals.{Row, byText, byArguments, byField, refusals, argumentsFor}
 use Rattle.command.specs.Answer.{Verdict, NO, accepted, behindCode, refusalText}
 
@@ -67,6 +69,10 @@ askedFor c xs = unlessRefused (firstByText refusals c xs) (askedWith c (argument
 
 unfoldable pub askedIn : List ℕ → Asked
 askedIn t = askedFor (codeIn t) (behindCode t)
+
+-- the kept batch that a text asks for, by its number
+unfoldable pub batchIn : List ℕ → BatchAsked
+batchIn t = pick (batchAsked (codeIn t) (behindCode t)) (asksFor.Number (batchNumber (behindCode t))) asksFor.Nothing
 
 -- ---- what refuses it by the record: the rows that look at a field, each a test of that field's number
 pub record Guard : Type 0 where

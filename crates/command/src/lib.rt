@@ -24,7 +24,7 @@ ghost use Rattle.base.specs.Test.{pick, member};
 ghost use Rattle.command.specs.Commands.{RT, PC, XC, NR, SB, RE, nothing, aPlace, placeFor, applied};
 ghost use Rattle.command.specs.Refusals.{listed};
 ghost use Rattle.command.specs.Answer.{NO, accepted};
-ghost use Rattle.command.specs.Request.{refused, numbersOf, whole, askedFor, askedIn, askedWith, guardsOf, guarded, andThen, plainGuards, keypadGuards, levelGuards, phaseGuards, alarmGuards, guardsAs, changesOf, servedOf, refusalNumber, decisionAs, requestAs, writingAs, answerAs, effectAs};
+ghost use Rattle.command.specs.Request.{refused, numbersOf, whole, askedFor, askedIn, askedWith, guardsOf, guarded, andThen, plainGuards, keypadGuards, levelGuards, phaseGuards, alarmGuards, guardsAs, changesOf, servedOf, batchIn, refusalNumber, decisionAs, requestAs, writingAs, answerAs, effectAs};
 
 // What a request asks to be shown; a parameter is given by its place.
 pub enum Reading {
@@ -154,6 +154,12 @@ pub enum Answer {
     No(Refusal),
     Shows(Reading),
     Ok,
+}
+
+// The kept batch that a text asks for, by its number.
+pub enum BatchAsked {
+    Number(u32),
+    Nothing,
 }
 
 // A parameter's place and a number, 0 where the form has none.
@@ -428,6 +434,25 @@ pub fn parse(text: &[u8]) -> Request
         AR => alone(rest, Request::Write(Writing::ResetAlarms)),
         _ => Request::Refused(Refusal::UnknownCode),
     }
+}
+
+// The kept batch that a text asks for: RT R and three digits. Only a controller with a bank serves it.
+pub fn batch_asked(text: &[u8]) -> BatchAsked
+    ensures { λ b. ⌜ b ≡ batchIn (now (text .entry)) ⌝ }
+{
+    if text.len() != 10 {
+        return BatchAsked::Nothing;
+    }
+    if wide(text[2]) * 256 + wide(text[3]) != RT {
+        return BatchAsked::Nothing;
+    }
+    if !is_word(&text[4..7], b" R ") {
+        return BatchAsked::Nothing;
+    }
+    let Digits::Number(n) = read_number(&text[7..]) else {
+        return BatchAsked::Nothing;
+    };
+    BatchAsked::Number(n)
 }
 
 // ---- what refuses a write by the record

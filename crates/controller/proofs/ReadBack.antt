@@ -1,7 +1,7 @@
 -- What each read request shows of a valid record, what AR does to it while the keypad is off, and what NR, PC and SB do to it while it is
 -- Idle too. `Theorems.antt` puts a write before a read. Assumes nothing.
 use Prim.Native.Nat.{ℕ, _+_, _*_, _/_, _%_, _^_, _≤_, _<_}
-use mathlib.Core.Bool.{true}
+use mathlib.Core.Bool.{Bool, true}
 use mathlib.Core.Path.{_≡_, refl, sym, ap, subst, _∙_}
 use mathlib.Core.List.{List, [], _∷_, _++_}
 use mathlib.Core.Logic.{⊎-elim}
@@ -21,7 +21,7 @@ use Rattle.base.proofs.Tests.{between-yes, between-high, below-or-not}
 use Rattle.state.proofs.Validity.{valid-tell}
 use Rattle.state.proofs.Parameters.{code-has-place, code-given-recipe, code-given-system}
 use Rattle.frame.specs.declared.Kind.{Kind}
-use Rattle.frame.specs.Frame.{isCapital, allText, namesUnit, addressIn, frameOf}
+use Rattle.frame.specs.Frame.{isCapital, allText, namesUnit, addressIn, frameOf, textIn}
 use Rattle.base.specs.Lists.{over}
 use Rattle.frame.proofs.Laws.{found}
 use Rattle.frame.proofs.RoundTrip.{frame-located}
@@ -35,7 +35,7 @@ use Rattle.text.proofs.Printable.{Text, text-wider, text-joined, text-word, tex
 use Rattle.text.proofs.Words.{value-digits, digits-all}
 use Rattle.command.proofs.Agree.{record-by-steps}
 use Rattle.reply.specs.Reply.{textFor}
-use Rattle.controller.specs.Call.{replied, callOf}
+use Rattle.controller.specs.Call.{silent, replied, unlessSilent, callOf}
 use Rattle.controller.proofs.Steps.{text-by-steps}
 
 -- ---- a code that has a place has three digits
@@ -86,6 +86,30 @@ parameterShown w p width n = (w ++ (digits 3 p ++ (space ∷ []))) ++ digits wid
 abbrev pub composed : ℕ → ℕ → List ℕ
 composed r f = (text "RC " ++ digits 2 r) ++ (space ∷ digits 8 f)
 
+-- ---- a frame for a unit is heard, whatever it holds
+-- the unit that its own address digits name
+pub named : (a c d : ℕ) (rest : List ℕ) → isCapital c ≡ true → isCapital d ≡ true → namesUnit (digits 2 a ++ (c ∷ d ∷ rest)) ≡ true
+unfolding namesUnit digits
+named a c d rest p q =
+    simp (
+      between-yes 0x30 0x39 (0x30 + a / 10 % 10) (omega arith) (omega arith),
+      between-yes 0x30 0x39 (0x30 + a % 10) (omega arith) (omega arith),
+      p,
+      q,
+    )
+
+pub numbered : (a c d : ℕ) (rest : List ℕ) → a ≤ 99 → addressIn (digits 2 a ++ (c ∷ d ∷ rest)) ≡ a
+unfolding addressIn digits
+numbered a c d rest h = omega arith
+
+-- and the reply goes by the frame's text
+pub frame-heard : {A : Type 0} (quiet : ℕ → A) (k : Kind) (good : Bool) (a room : ℕ) (reply : List ℕ → A) (t : List ℕ) → good ≡ true → 64 ≤ room → Text 4 60 t
+    → namesUnit t ≡ true → addressIn t ≡ a → unlessSilent quiet k good a (frameOf k t) room (reply (textIn k (frameOf k t))) ≡ reply t
+frame-heard quiet k good a room reply t v w f n e =
+    let l = frame-located k t (f .low) (f .high) (f .bytes) in
+    let g = found k (frameOf k t) (length t) (l .0) in
+    simp (v, le-leb 64 room w, g .limits, g .marks, g .sum, l .1, f .bytes, n, eq-eqb (addressIn t) a e)
+
 -- ---- the call that answers them
 
 -- asked this at address n, the call shows that and leaves the record r
@@ -102,27 +126,9 @@ module _ (k : Kind) (s : Record) (o : List ℕ) (v : valid s ≡ true) (room : 6
   abbrev Answers : List ℕ → List ℕ → Type 0
   Answers question shown = AnswersAt k s o (get address s) question shown
 
-  -- the unit that its own address digits name
-  named : (c d : ℕ) (rest : List ℕ) → isCapital c ≡ true → isCapital d ≡ true → namesUnit (digits 2 (s .address) ++ (c ∷ d ∷ rest)) ≡ true
-  unfolding namesUnit digits
-  named c d rest p q =
-      simp (
-        between-yes 0x30 0x39 (0x30 + s .address / 10 % 10) (omega arith) (omega arith),
-        between-yes 0x30 0x39 (0x30 + s .address % 10) (omega arith) (omega arith),
-        p,
-        q,
-      )
-
-  numbered : (c d : ℕ) (rest : List ℕ) → addressIn (digits 2 (s .address) ++ (c ∷ d ∷ rest)) ≡ s .address
-  unfolding addressIn digits
-  numbered c d rest = let f = valid-tell s v .scalars in let h : s .address ≤ 99 = f .address-high in omega arith
-
   called : (t : List ℕ) → Text 4 60 t → namesUnit t ≡ true → addressIn t ≡ s .address → callOf k s (frameOf k t) o ≡ replied k t s o
   unfolding callOf
-  called t f n a =
-      let l = frame-located k t (f .low) (f .high) (f .bytes) in
-      let g = found k (frameOf k t) (length t) (l .0) in
-      simp (v, le-leb 64 (length o) room, g .limits, g .marks, g .sum, l .1, f .bytes, n, eq-eqb (addressIn t) (s .address) a)
+  called t f n a = frame-heard (λ m. silent m s o) k (valid s) (s .address) (length o) (λ x. replied k x s o) t v room f n a
 
   -- a request that no row of the record refuses
   request-served : (q : ℕ) (x : Arguments) → guarded (guardsIn refusals q x (get access s)) s ≡ accepted
@@ -143,7 +149,7 @@ module _ (k : Kind) (s : Record) (o : List ℕ) (v : valid s ≡ true) (room : 6
         let reply-is : replyText t s ≡ digits 2 (s .address) ++ printed (rowOf q commands .reply x) s =
         sym (text-by-steps t s) ∙ ap (λ (z : Answered × Record). textFor (z .0) s) served in
         let record-is : recordAfter t s ≡ applied (rowOf q commands .effect x) s = sym (record-by-steps t s) ∙ ap (λ (z : Answered × Record). z .1) served in
-        called t legal (named c d rest h i) (numbered c d rest) ∙ simp (reply-is, record-is)
+        called t legal (named (s .address) c d rest h i) (numbered (s .address) c d rest (valid-tell s v .scalars .address-high)) ∙ simp (reply-is, record-is)
 
     -- no row of the record concerns it, and it changes nothing
     answers : guardsIn refusals q x (get access s) ≡ [] → rowOf q commands .effect x ≡ [] → Answers (c ∷ d ∷ rest) (printed (rowOf q commands .reply x) s)

@@ -1,6 +1,6 @@
 -- What is proved of every call, for any record, kind of link, request bytes and reply buffer. Assumes nothing.
 use Prim.Native.Nat.{ℕ, _+_, _*_, _≤_, _<_}
-use mathlib.Core.Bool.{true, false}
+use mathlib.Core.Bool.{Bool, true, false}
 use mathlib.Core.Path.{_≡_, refl, sym, ap, subst, _∙_}
 use mathlib.Core.List.{List, [], _∷_, _++_, map}
 use mathlib.Core.Logic.{_⊎_, inl, inr, ⊎-elim}
@@ -41,80 +41,92 @@ use Rattle.command.proofs.Tables.{FirstAt, noRow, first-goes-out, by-first, non
 use Rattle.command.proofs.Fits.{Sound, SoundAsked, asked-sound, accepted-fits}
 use Rattle.command.proofs.Agree.{accepted-asked}
 use Rattle.reply.proofs.Laws.{longest, text-legal, served-answers}
-use Rattle.controller.specs.Call.{Outcome, silent, replied, callOf}
+use Rattle.controller.specs.Call.{OutcomeOf, silent, answered, unlessSilent, callOf}
 use Rattle.controller.proofs.Steps.{text-by-steps}
 use Rattle.controller.proofs.ReadBack.{parameterShown, composed, AnswersAt, composition-same, status-read, codes-read, number-read, recipe-read, composition-read, raw-read, alarms-read, value-read, level-read, held-there, held-elsewhere}
 
--- ---- every input gets a reply or exactly one named silence
+-- ---- every input gets a reply or exactly one named silence, whatever is held
+module _ {S : Type 0} where
+  -- a silence: its number, nothing reported, and nothing changed; r is what was held
+  pub record SilentOutcome (c : OutcomeOf S) (r : S) (o : List ℕ) : Type 0 where
+    pub low : 1 ≤ c .silence
+    pub high : c .silence ≤ 8
+    pub nothing : c .reported ≡ 0
+    pub same-record : c .after ≡ r
+    pub same-buffer : c .buffer ≡ o
 
--- a silence: its number, nothing reported, and nothing changed
-pub record Silenced (k : Kind) (r : Record) (q o : List ℕ) : Type 0 where
-  pub low : 1 ≤ callOf k r q o .silence
-  pub high : callOf k r q o .silence ≤ 8
-  pub nothing : callOf k r q o .reported ≡ 0
-  pub same-record : callOf k r q o .after ≡ r
-  pub same-buffer : callOf k r q o .buffer ≡ o
-
--- a reply: a frame of the same kind over the start of the buffer
-pub record Answered (k : Kind) (r : Record) (q o : List ℕ) : Type 0 where
-  pub heard : callOf k r q o .silence ≡ 0
-  pub size : callOf k r q o .reported ≡ length (frameOf k (replyText (textIn k q) r))
-  pub low : 7 ≤ callOf k r q o .reported
-  pub high : callOf k r q o .reported ≤ 64
-  pub next-record : callOf k r q o .after ≡ recordAfter (textIn k q) r
-  pub frame : callOf k r q o .buffer ≡ over (frameOf k (replyText (textIn k q) r)) o
-  pub valid-record : valid r ≡ true
-  pub room : 64 ≤ length o
-
--- a reply's text is legal, and its frame fits the buffer
-pub reply-legal : (t : List ℕ) (r : Record) → Text 4 (2 + longest) (replyText t r)
-reply-legal t r = subst (Text 4 (2 + longest)) (text-by-steps t r) (text-legal _ r (served-answers (askedIn t) r))
+  -- a reply: a frame of the same kind over the start of the buffer; x is its text, s what is held then
+  pub record ReplyOutcome (c : OutcomeOf S) (good : Bool) (k : Kind) (x : List ℕ) (s : S) (o : List ℕ) : Type 0 where
+    pub heard : c .silence ≡ 0
+    pub size : c .reported ≡ length (frameOf k x)
+    pub low : 7 ≤ c .reported
+    pub high : c .reported ≤ 64
+    pub next-record : c .after ≡ s
+    pub frame : c .buffer ≡ over (frameOf k x) o
+    pub valid-record : good ≡ true
+    pub room : 64 ≤ length o
 
 frame-sizes : (k : Kind) (t : List ℕ) → Text 4 (2 + longest) t → (7 ≤ length (frameOf k t)) × (length (frameOf k t) ≤ 64)
 frame-sizes Minicomputer t f = omega (arith, frame-length Minicomputer t)
 frame-sizes Terminal t f = omega (arith, frame-length Terminal t)
 
-pub every-input : (k : Kind) (r : Record) (q o : List ℕ) → Silenced k r q o ⊎ Answered k r q o
-unfolding callOf
-every-input k r q o =
+pub every-outcome : {S : Type 0} (k : Kind) (good : Bool) (a : ℕ) (r s : S) (q o x : List ℕ) → Text 4 (2 + longest) x → (c : OutcomeOf S)
+    → c ≡ unlessSilent (λ n. silent n r o) k good a q (length o) (answered k x s o) → SilentOutcome c r o ⊎ ReplyOutcome c good k x s o
+every-outcome {S} k good a r s q o x legal c is =
     let t : List ℕ = textIn k q in
-    by-test (valid r) (λ v. by-test (leb 64 (length o)) (λ w. by-test (withinLimits k (length q)) (λ l. by-test (marksRight k q)
-    (λ m. by-test (checkRight k q) (λ c. by-test (allText t) (λ x. by-test (namesUnit t) (λ n. by-test (eqb (addressIn t) (get address r))
-    (λ a. inr (answered v (leb-true 64 (length o) w) (simp (v, w, l, m, c, x, n, a))))
-    (λ a. inl (silenced 8 (omega arith) (omega arith) (simp (v, w, l, m, c, x, n, a)))))
-    (λ n. inl (silenced 7 (omega arith) (omega arith) (simp (v, w, l, m, c, x, n)))))
-    (λ x. inl (silenced 6 (omega arith) (omega arith) (simp (v, w, l, m, c, x)))))
-    (λ c. inl (silenced 5 (omega arith) (omega arith) (simp (v, w, l, m, c)))))
-    (λ m. inl (silenced 4 (omega arith) (omega arith) (simp (v, w, l, m)))))
-    (λ l. inl (silenced 3 (omega arith) (omega arith) (simp (v, w, l)))))
-    (λ w. inl (silenced 2 (omega arith) (omega arith) (simp (v, w)))))
-    (λ v. inl (silenced 1 (omega arith) (omega arith) (simp v)))
+    by-test good (λ v. by-test (leb 64 (length o)) (λ w. by-test (withinLimits k (length q)) (λ l. by-test (marksRight k q)
+    (λ m. by-test (checkRight k q) (λ h. by-test (allText t) (λ b. by-test (namesUnit t) (λ n. by-test (eqb (addressIn t) a)
+    (λ u. inr (replied-so v (leb-true 64 (length o) w) (is ∙ simp (v, w, l, m, h, b, n, u))))
+    (λ u. inl (silenced 8 (omega arith) (omega arith) (is ∙ simp (v, w, l, m, h, b, n, u)))))
+    (λ n. inl (silenced 7 (omega arith) (omega arith) (is ∙ simp (v, w, l, m, h, b, n)))))
+    (λ b. inl (silenced 6 (omega arith) (omega arith) (is ∙ simp (v, w, l, m, h, b)))))
+    (λ h. inl (silenced 5 (omega arith) (omega arith) (is ∙ simp (v, w, l, m, h)))))
+    (λ m. inl (silenced 4 (omega arith) (omega arith) (is ∙ simp (v, w, l, m)))))
+    (λ l. inl (silenced 3 (omega arith) (omega arith) (is ∙ simp (v, w, l)))))
+    (λ w. inl (silenced 2 (omega arith) (omega arith) (is ∙ simp (v, w)))))
+    (λ v. inl (silenced 1 (omega arith) (omega arith) (is ∙ simp v)))
   where
-    silenced : (n : ℕ) → 1 ≤ n → n ≤ 8 → callOf k r q o ≡ silent n r o → Silenced k r q o
-    silenced n a b e =
-        let i : callOf k r q o .silence ≡ n = ap (λ (x : Outcome). x .silence) e in
+    silenced : (n : ℕ) → 1 ≤ n → n ≤ 8 → c ≡ silent n r o → SilentOutcome c r o
+    silenced n l h e =
+        let i : c .silence ≡ n = ap (λ (y : OutcomeOf S). y .silence) e in
         record {
           low = omega arith;
           high = omega arith;
-          nothing = ap (λ (x : Outcome). x .reported) e;
-          same-record = ap (λ (x : Outcome). x .after) e;
-          same-buffer = ap (λ (x : Outcome). x .buffer) e;
+          nothing = ap (λ (y : OutcomeOf S). y .reported) e;
+          same-record = ap (λ (y : OutcomeOf S). y .after) e;
+          same-buffer = ap (λ (y : OutcomeOf S). y .buffer) e;
         }
 
-    answered : valid r ≡ true → 64 ≤ length o → callOf k r q o ≡ replied k (textIn k q) r o → Answered k r q o
-    answered v w e =
-        let i : callOf k r q o .reported ≡ length (frameOf k (replyText (textIn k q) r)) = ap (λ (x : Outcome). x .reported) e in
-        let l = frame-sizes k (replyText (textIn k q) r) (reply-legal (textIn k q) r) in
+    replied-so : good ≡ true → 64 ≤ length o → c ≡ answered k x s o → ReplyOutcome c good k x s o
+    replied-so v w e =
+        let i : c .reported ≡ length (frameOf k x) = ap (λ (y : OutcomeOf S). y .reported) e in
+        let l = frame-sizes k x legal in
         record {
-          heard = ap (λ (x : Outcome). x .silence) e;
+          heard = ap (λ (y : OutcomeOf S). y .silence) e;
           size = i;
           low = omega arith;
           high = omega arith;
-          next-record = ap (λ (x : Outcome). x .after) e;
-          frame = ap (λ (x : Outcome). x .buffer) e;
+          next-record = ap (λ (y : OutcomeOf S). y .after) e;
+          frame = ap (λ (y : OutcomeOf S). y .buffer) e;
           valid-record = v;
           room = w;
         }
+
+-- ---- document 01's call
+abbrev pub Silenced : Kind → Record → List ℕ → List ℕ → Type 0
+Silenced k r q o = SilentOutcome (callOf k r q o) r o
+
+abbrev pub Answered : Kind → Record → List ℕ → List ℕ → Type 0
+Answered k r q o = ReplyOutcome (callOf k r q o) (valid r) k (replyText (textIn k q) r) (recordAfter (textIn k q) r) o
+
+-- a reply's text is legal, and its frame fits the buffer
+pub reply-legal : (t : List ℕ) (r : Record) → Text 4 (2 + longest) (replyText t r)
+reply-legal t r = subst (Text 4 (2 + longest)) (text-by-steps t r) (text-legal _ r (served-answers (askedIn t) r))
+
+pub every-input : (k : Kind) (r : Record) (q o : List ℕ) → Silenced k r q o ⊎ Answered k r q o
+unfolding callOf
+every-input k r q o =
+    every-outcome k (valid r) (get address r) r (recordAfter (textIn k q) r) q o (replyText (textIn k q) r) (reply-legal (textIn k q) r) (callOf k r q o) refl
 
 -- a refusal returns the record as it was
 pub refusal-keeps : (t : List ℕ) (r : Record) (n : ℕ) → verdict t r ≡ NO n → recordAfter t r ≡ r

@@ -6,10 +6,9 @@ use frame::ROOM;
 use frame::Silence;
 use state::Record;
 ghost use mathlib.Core.Path.{_≡_};
-ghost use Prim.Native.Nat.{_≤_};
 ghost use lib.ListN.{length};
 ghost use Rattle.command.specs.Request.{effectAs};
-ghost use Rattle.controller.specs.Call.{answerLength, outcomeAs, silentAs, replyOf, callOf};
+ghost use Rattle.controller.specs.Call.{answerLength, outcomeAs, silentAs, replyOf, callOf, hearingOf, heardAs};
 
 pub enum Answer {
     // S1 to S8
@@ -28,6 +27,14 @@ impl Answer {
             Answer::Reply(n) => n,
         }
     }
+}
+
+// What a request gets before its text is looked at.
+pub enum Heard {
+    // S1 to S8
+    Silent(Silence),
+    // The length of its text, which starts at the second byte.
+    Text(usize),
 }
 
 // The answer, and the record afterwards.
@@ -65,22 +72,35 @@ pub fn reply_to(kind: Kind, before: Record, text: &[u8], out: &mut [u8]) -> Repl
     }
 }
 
+// Hears a frame for the unit with this address: every entry that takes one frame does so here. `good` if all that the unit holds is
+// valid; so much reply room is lent.
+pub fn hear(kind: Kind, good: bool, address: u8, request: &[u8], room: usize) -> Heard
+    ensures { λ h. ⌜ heardAs h ≡ hearingOf kind good address (now (request .entry)) room ⌝ }
+{
+    if !good {
+        return Heard::Silent(Silence::InvalidRecord);
+    }
+    if room < ROOM {
+        return Heard::Silent(Silence::ShortReplyBuffer);
+    }
+    match frame::address(kind, request) {
+        Addressed::Silent(why) => Heard::Silent(why),
+        Addressed::Unit(other, n) => {
+            if other != address {
+                return Heard::Silent(Silence::OtherAddress);
+            }
+            Heard::Text(n)
+        }
+    }
+}
+
 // One frame that fills the lent request, and one reply buffer. A silence leaves the record and the buffer as they were.
 pub fn call(kind: Kind, before: Record, request: &[u8], out: &mut [u8]) -> Called
     ensures { λ c. ⌜ outcomeAs (c .answer) (c .after) (now (out .exit)) ≡ callOf kind before (now (request .entry)) (now (out .entry)) ⌝ }
 {
-    if !before.valid() {
-        return unanswered(Silence::InvalidRecord, before);
-    }
-    if out.len() < ROOM {
-        return unanswered(Silence::ShortReplyBuffer, before);
-    }
-    match frame::address(kind, request) {
-        Addressed::Silent(why) => unanswered(why, before),
-        Addressed::Unit(address, n) => {
-            if address != before.address {
-                return unanswered(Silence::OtherAddress, before);
-            }
+    match hear(kind, before.valid(), before.address, request, out.len()) {
+        Heard::Silent(why) => unanswered(why, before),
+        Heard::Text(n) => {
             let end = n + 1;
             let replied = reply_to(kind, before, &request[1..end], out);
             let answer = replied.answer;

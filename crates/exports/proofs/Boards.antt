@@ -23,7 +23,7 @@ use Rattle.storedboard.specs.declared.Answer.the-variants as answer
 use Rattle.storedboard.specs.StoredBoard.{countIn, formsIn, recordsIn, Left, leftAs, refusedBy, silentBy, storedBoardOf}
 use Rattle.storedboard.proofs.Theorems as stored
 use Rattle.exports.specs.Bytes.{silenceAnswer, noSuch, isKind, kindOf, heardAnswer, boardAnswer, boardLeft, boardBytes, answerLeft, Tellable}
-use Rattle.exports.proofs.Theorems.{either, Within}
+use Rattle.exports.proofs.InPlace.{either, Within}
 
 -- ---- the numbers
 module _ (c : controller.Answer) where

@@ -1,6 +1,9 @@
 pub mod Steps
+pub mod InPlace
 pub mod Theorems
 pub mod Boards
 pub mod Judged
 pub mod Drums
 pub mod Tells
+pub mod Banks
+pub mod BankTheorems

@@ -157,25 +157,25 @@ module _ (a : Answer) (n : ℕ) where
 pub ruleset opening = (open-refused, open-no-room, open-whole)
 
 -- what was read, and its answer
-opened-read : (s : List ℕ) (a : Answer) (r : Record) → (answerAs a, r) ≡ stored.readOf s → (x : ℕ) → x ≡ openAnswer (answerAs a) (hasRoom s) → (x, r) ≡ openOf s
+pub opened-read : (s : List ℕ) (a : Answer) (r : Record) → (answerAs a, r) ≡ stored.readOf s → (x : ℕ) → x ≡ openAnswer (answerAs a) (hasRoom s) → (x, r) ≡ openOf s
 opened-read s a r f x g = ap (λ (n : ℕ). (n, r)) g ∙ sym (open-read s (answerAs a, r) (sym f))
 
--- what is then left, whatever it is
-module _ {A : Type 0} (s : List ℕ) (refusal : ℕ → A) (on : Record → A) (n : ℕ) (r : Record) (e : (n, r) ≡ openOf s) where
-  left-so : inPlace (n, r) refusal on ≡ inPlace (openOf s) refusal on
-  left-so = ap (λ (p : ℕ × Record). inPlace p refusal on) e
+-- what is then left, whatever it is and whatever was opened
+module _ {A S : Type 0} (x : ℕ × S) (refusal : ℕ → A) (on : S → A) (n : ℕ) (r : S) (e : (n, r) ≡ x) where
+  left-so : inPlace (n, r) refusal on ≡ inPlace x refusal on
+  left-so = ap (λ (p : ℕ × S). inPlace p refusal on) e
 
-  refused-so : (n ≡ 0 → ⊥) → refusal n ≡ inPlace (openOf s) refusal on
+  pub refused-so : (n ≡ 0 → ⊥) → refusal n ≡ inPlace x refusal on
   refused-so h = simp (ne-eqb n 0 h) at left-so
 
-  opened-so : n ≡ 0 → on r ≡ inPlace (openOf s) refusal on
+  pub opened-so : n ≡ 0 → on r ≡ inPlace x refusal on
   opened-so h = simp (eq-eqb n 0 h) at left-so
 
-opened : (s : List ℕ) (n : ℕ) (r : Record) → (n, r) ≡ openOf s → n ≡ 0 → openOf s ≡ (0, r)
-opened s n r e h = sym e ∙ ap (λ (m : ℕ). (m, r)) h
+pub opened : {S : Type 0} (x : ℕ × S) (n : ℕ) (r : S) → (n, r) ≡ x → n ≡ 0 → x ≡ (0, r)
+opened x n r e h = sym e ∙ ap (λ (m : ℕ). (m, r)) h
 
 pub opened-record : (s : List ℕ) (a : Answer) (r : Record) → (answerAs a, r) ≡ stored.readOf s → (x : ℕ) → x ≡ openAnswer (answerAs a) (hasRoom s) → x ≡ 0 → openOf s ≡ (0, r)
-opened-record s a r f x g = opened s x r (opened-read s a r f x g)
+opened-record s a r f x g = opened (openOf s) x r (opened-read s a r f x g)
 
 -- the cases
 pub opened-by : (s : List ℕ) (P : ℕ × Record → Type 0) → ((n : ℕ) (r : Record) → stored.readOf s ≡ (K n, r) → P (200 + n, r))
@@ -188,7 +188,7 @@ opened-by s P refused whole = go (stored.readOf s) refl
     go (done, r) e = whole r e (hasRoom s) refl
 
 -- what an answer of 0 tells: the record was read whole, and there is room
-open-tells : (s : List ℕ) (r : Record) → openOf s ≡ (0, r) → (stored.readOf s ≡ (done, r)) × (hasRoom s ≡ true)
+pub open-tells : (s : List ℕ) (r : Record) → openOf s ≡ (0, r) → (stored.readOf s ≡ (done, r)) × (hasRoom s ≡ true)
 open-tells s r = opened-by s (λ (p : ℕ × Record). p ≡ (0, r) → (stored.readOf s ≡ (done, r)) × (hasRoom s ≡ true)) (λ n t e z. refused (200 + n) t (omega arith) z) whole
   where
     refused : (n : ℕ) (t : Record) → 1 ≤ n → _≡_ {A = ℕ × Record} (n, t) (0, r) → (stored.readOf s ≡ (done, r)) × (hasRoom s ≡ true)
@@ -201,7 +201,7 @@ open-tells s r = opened-by s (λ (p : ℕ × Record). p ≡ (0, r) → (stored.r
 
 -- so the record is valid, its bytes are of the version that is written, and a valid record takes their place
 module _ (s : List ℕ) (r : Record) (h : openOf s ≡ (0, r)) where
-  opened-valid : valid r ≡ true
+  pub opened-valid : valid r ≡ true
   opened-valid = record-valid s done r (open-tells s r h .0)
 
   opened-length : length s ≡ storedLength current
@@ -214,7 +214,7 @@ module _ (s : List ℕ) (r : Record) (h : openOf s ≡ (0, r)) where
       let long : length s ≡ storedLength version = t .long in
       omega arith
 
-  replaced : (t : Record) (b : List ℕ) (w : Written) → valid t ≡ true → (writtenAs w, b) ≡ writeOf t s → b ≡ storedForm t
+  pub replaced : (t : Record) (b : List ℕ) (w : Written) → valid t ≡ true → (writtenAs w, b) ≡ writeOf t s → b ≡ storedForm t
   replaced t b w v e =
       let l = opened-length in
       written t s b w v (omega arith) e ∙ over-all (storedForm t) s (omega (arith, form-length t))
@@ -228,17 +228,17 @@ module _ (n p : ℕ) (s : List ℕ) where
   module _ (low : n ≤ 6) (a : Answer) (r : Record) (e : (answerAs a, r) ≡ stored.readOf s) (x : ℕ) (z : x ≡ openAnswer (answerAs a) (hasRoom s)) where
     pub panel-refused : (x ≡ 0 → ⊥) → (x, s) ≡ panelBytes n p s
     unfolding panelBytes
-    panel-refused h = simp (le-leb n 6 low) (refused-so s (λ m. (m, s)) (λ y. (0, storedForm (after (eventOf n p) y))) x r (opened-read s a r e x z) h)
+    panel-refused h = simp (le-leb n 6 low) (refused-so (openOf s) (λ m. (m, s)) (λ y. (0, storedForm (after (eventOf n p) y))) x r (opened-read s a r e x z) h)
 
     pub panel-stored : (v : Event) (t : Record) (w : Written) (b : List ℕ) → x ≡ 0 → v ≡ eventOf n p → t ≡ after v r
         → (writtenAs w, b) ≡ writeOf t s → (0, b) ≡ panelBytes n p s
     unfolding panelBytes
     panel-stored v t w b h i f d =
         let g : t ≡ after (eventOf n p) r = f ∙ ap (λ (y : Event). after y r) i in
-        let o : openOf s ≡ (0, r) = opened s x r (opened-read s a r e x z) h in
+        let o : openOf s ≡ (0, r) = opened (openOf s) x r (opened-read s a r e x z) h in
         let k : valid t ≡ true = ap valid g ∙ after-kept r (opened-valid s r o) (eventOf n p) in
         ap (λ (y : List ℕ). (0, y)) (replaced s r o t b w k d ∙ ap storedForm g)
-        ∙ simp (le-leb n 6 low) (opened-so s (λ m. (m, s)) (λ y. (0, storedForm (after (eventOf n p) y))) x r (opened-read s a r e x z) h)
+        ∙ simp (le-leb n 6 low) (opened-so (openOf s) (λ m. (m, s)) (λ y. (0, storedForm (after (eventOf n p) y))) x r (opened-read s a r e x z) h)
 
 pub ruleset happening = (panel-none, panel-refused, panel-stored)
 
@@ -286,14 +286,14 @@ module _ (n : ℕ) (s q o : List ℕ) where
   module _ (low : n ≤ 1) (a : Answer) (r : Record) (e : (answerAs a, r) ≡ stored.readOf s) (x : ℕ) (z : x ≡ openAnswer (answerAs a) (hasRoom s)) where
     pub call-refused : (x ≡ 0 → ⊥) → (x, (s, o)) ≡ callBytes n s q o
     unfolding callBytes
-    call-refused h = simp (le-leb n 1 low) (refused-so s (λ m. (m, (s, o))) (λ t. callLeft (callOf (kindOf n) t q o) s o) x r (opened-read s a r e x z) h)
+    call-refused h = simp (le-leb n 1 low) (refused-so (openOf s) (λ m. (m, (s, o))) (λ t. callLeft (callOf (kindOf n) t q o) s o) x r (opened-read s a r e x z) h)
 
     pub call-answered : (k : Kind) (y : ℕ) (d b : List ℕ) → x ≡ 0 → k ≡ kindOf n → (y, (d, b)) ≡ callLeft (callOf k r q o) s o
         → (y, (d, b)) ≡ callBytes n s q o
     unfolding callBytes
     call-answered k y d b h i f =
         f ∙ (ap (λ (j : Kind). callLeft (callOf j r q o) s o) i
-        ∙ simp (le-leb n 1 low) (opened-so s (λ m. (m, (s, o))) (λ t. callLeft (callOf (kindOf n) t q o) s o) x r (opened-read s a r e x z) h))
+        ∙ simp (le-leb n 1 low) (opened-so (openOf s) (λ m. (m, (s, o))) (λ t. callLeft (callOf (kindOf n) t q o) s o) x r (opened-read s a r e x z) h))
 
 pub ruleset serving = (call-none, call-refused, call-answered)
 
@@ -320,11 +320,11 @@ pub ruleset hearing = (never-silent, left-served)
 module _ (s q o : List ℕ) (a : Answer) (r : Record) (e : (answerAs a, r) ≡ stored.readOf s) (x : ℕ) (z : x ≡ openAnswer (answerAs a) (hasRoom s)) where
   pub several-refused : (y : Numbers) → (x ≡ 0 → ⊥) → y ≡ record { answer = x; report = record { taken = 0; answered = 0; written = 0 } } → severalAs y s o ≡ severalBytes s q o
   unfolding severalBytes
-  several-refused y h f = ap (λ (z : Numbers). severalAs z s o) f ∙ refused-so s (λ m. nothingTaken m s o) (λ t. severalLeft (severalOf t q o) s o) x r (opened-read s a r e x z) h
+  several-refused y h f = ap (λ (z : Numbers). severalAs z s o) f ∙ refused-so (openOf s) (λ m. nothingTaken m s o) (λ t. severalLeft (severalOf t q o) s o) x r (opened-read s a r e x z) h
 
   pub several-answered : (y : SeveralLeft) → x ≡ 0 → y ≡ severalLeft (severalOf r q o) s o → y ≡ severalBytes s q o
   unfolding severalBytes
-  several-answered y h f = f ∙ opened-so s (λ m. nothingTaken m s o) (λ t. severalLeft (severalOf t q o) s o) x r (opened-read s a r e x z) h
+  several-answered y h f = f ∙ opened-so (openOf s) (λ m. nothingTaken m s o) (λ t. severalLeft (severalOf t q o) s o) x r (opened-read s a r e x z) h
 
 pub ruleset taking = (several-refused, several-answered)
 
@@ -338,9 +338,13 @@ module _ (j : Judgement) (a : statement.Judgement) (e : judgementAs j ≡ a) whe
   unfolding judgeNumbers
   judged-refuted i n h = ap (λ (x : Judgement). judgeNumbers (judgementAs x)) (sym h) ∙ ap judgeNumbers e
 
+  pub judged-halted : (i n : ℕ) → j ≡ judgement.NotJudged i n → (2, (i, n)) ≡ judgeNumbers a
+  unfolding judgeNumbers
+  judged-halted i n h = ap (λ (x : Judgement). judgeNumbers (judgementAs x)) (sym h) ∙ ap judgeNumbers e
+
   pub judged-refused : (k : recording.Refusal) (n : ℕ) → j ≡ judgement.Refused k → n ≡ recordingAnswer (form.refusalNumber k) → (n, (0, 0)) ≡ judgeNumbers a
   unfolding judgeNumbers
   judged-refused k n h f =
       ap (λ (x : ℕ). (x, (0, 0))) f ∙ ap (λ (x : Judgement). judgeNumbers (judgementAs x)) (sym h) ∙ ap judgeNumbers e
 
-pub ruleset judging = (judged-fits, judged-refuted, judged-refused)
+pub ruleset judging = (judged-fits, judged-refuted, judged-halted, judged-refused)

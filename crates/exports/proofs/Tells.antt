@@ -23,6 +23,8 @@ use Rattle.recording.specs.Known.{RightlyTold, RightlyReasoned}
 use Rattle.knowledge.specs.declared.Knowledge.{Knowledge}
 use Rattle.knowledge.specs.Sets.{has}
 use Rattle.knowledge.specs.Knowledge.{setsOf, mayHold, roomFor, lentIn, laidIn}
+use Rattle.frame.specs.declared.Kind.the-variants.{Minicomputer}
+use Rattle.banked.specs.Banked.{asksHeard}
 use Rattle.hearing.specs.Hearing.{exchange, exchangeLearnt, exchangeTaught}
 use Rattle.hearing.proofs.Exact.{taught-after}
 use Rattle.reason.specs.declared.Reason.{Reason}
@@ -32,7 +34,7 @@ use Rattle.judging.specs.declared.Told.the-variants as told
 use Rattle.judging.specs.declared.Findings.{Findings}
 use Rattle.judging.specs.declared.Cause.{Cause}
 use Rattle.judging.specs.declared.Cause.the-variants as cause
-use Rattle.judging.specs.Judge.{Telling, unread, broken, sets, tellingAs, knownOf, knownAs, toldBy, Caused, unexplained, fitting, because, causedAs, whyOf, reasonedBy}
+use Rattle.judging.specs.Judge.{Telling, unread, broken, halted, sets, tellingAs, knownOf, knownAs, toldBy, Caused, unexplained, fitting, unjudged, because, causedAs, whyOf, reasonedBy}
 use Rattle.judging.proofs.Theorem.{known-right, known-length, why-right}
 use Rattle.exports.specs.declared.WhyNumbers.{WhyNumbers}
 use Rattle.exports.specs.declared.Found.{Found}
@@ -61,28 +63,36 @@ module _ (bs : List ℕ) (k : ℕ) (o : List ℕ) where
     pub known-refuted : (i : ℕ) → x .told ≡ told.Refuted i → (1, (i, o)) ≡ knownNumbers bs k o
     known-refuted i z = known-by (told.Refuted i) z
 
+    pub known-halted : (i : ℕ) → x .told ≡ told.NotJudged i → (2, (i, o)) ≡ knownNumbers bs k o
+    known-halted i z = known-by (told.NotJudged i) z
+
     pub known-laid : (b : Bool) (d : List ℕ) → x .told ≡ told.Sets → (b, d) ≡ laidIn (x .codes) o → (0, (0, d)) ≡ knownNumbers bs k o
     known-laid b d z f = ap (λ (y : List ℕ). (0, (0, y))) (laid-over (x .codes) o d b room f) ∙ known-by told.Sets z
 
-pub ruleset knowing = (known-short, known-refused, known-refuted, known-laid)
+pub ruleset knowing = (known-short, known-refused, known-refuted, known-halted, known-laid)
 
 -- ---- `khuyapesh_learn`
 pub learn-short : (a c : ℕ) (q reply o : List ℕ) → length o < fieldCount → (401, o) ≡ learnNumbers a c q reply o
 unfolding learnNumbers
 learn-short a c q reply o h = simp (lt-leb _ _ h)
 
-module _ (a c : ℕ) (q reply o : List ℕ) (x k : Knowledge) (e : k ≡ exchangeTaught true a c x (exchange q reply)) (f : x ≡ lentIn o) (room : fieldCount ≤ length o) where
+pub learn-asked : (a c : ℕ) (q reply o : List ℕ) (b : Bool) → fieldCount ≤ length o → b ≡ asksHeard Minicomputer a q → b ≡ true → (2, o) ≡ learnNumbers a c q reply o
+unfolding learnNumbers
+learn-asked a c q reply o b room e z = simp (le-leb _ _ room, sym e ∙ z)
+
+module _ (a c : ℕ) (q reply o : List ℕ) (x k : Knowledge) (e : k ≡ exchangeTaught true a c x (exchange q reply)) (f : x ≡ lentIn o) (room : fieldCount ≤ length o)
+    (t : Bool) (h : t ≡ asksHeard Minicomputer a q) (unasked : t ≡ false) where
   learn-by : (b : Bool) → k .alive ≡ b → pick b (0, over (k .codes) o) (1, o) ≡ learnNumbers a c q reply o
   unfolding learnNumbers
   learn-by b z =
       ap (λ (y : Bool). pick y (0, over (k .codes) o) (1, o)) (sym z)
-      ∙ (ap (λ (y : Knowledge). learntLeft y o) (e ∙ (taught-after a c x (exchange q reply) ∙ ap (λ (y : Knowledge). exchangeLearnt a c y (exchange q reply)) f)) ∙ simp (le-leb _ _ room))
+      ∙ (ap (λ (y : Knowledge). learntLeft y o) (e ∙ (taught-after a c x (exchange q reply) ∙ ap (λ (y : Knowledge). exchangeLearnt a c y (exchange q reply)) f)) ∙ simp (le-leb _ _ room, sym h ∙ unasked))
 
   pub learn-none : not (k .alive) ≡ true → (1, o) ≡ learnNumbers a c q reply o
-  learn-none h = learn-by false (not-true (k .alive) h)
+  learn-none dead = learn-by false (not-true (k .alive) dead)
 
   pub learn-laid : (b : Bool) (d : List ℕ) → not (k .alive) ≡ false → (b, d) ≡ laidIn (k .codes) o → (0, d) ≡ learnNumbers a c q reply o
-  learn-laid b d h l = ap (λ (y : List ℕ). (0, y)) (laid-over (k .codes) o d b room l) ∙ learn-by true (not-false (k .alive) h)
+  learn-laid b d alive l = ap (λ (y : List ℕ). (0, y)) (laid-over (k .codes) o d b room l) ∙ learn-by true (not-false (k .alive) alive)
 
 -- ---- `khuyapesh_may_hold`
 module _ (f s n : ℕ) (b : Bool) (e : b ≡ mayHold f s n) where
@@ -121,11 +131,15 @@ module _ (x : WhyNumbers) (w : Cause) where
   unfolding whyNumbers
   cause-fits n z e = ap whyAs e ∙ sym (ap (λ (y : Cause). whyNumbers (causedAs y)) z)
 
+  pub cause-halted : (i n : ℕ) → w ≡ cause.NotJudged i n → x ≡ record { answer = 5; place = i; number = 0; held = 0; needed = 0 } → whyAs x ≡ whyNumbers (causedAs w)
+  unfolding whyNumbers
+  cause-halted i n z e = ap whyAs e ∙ sym (ap (λ (y : Cause). whyNumbers (causedAs y)) z)
+
   pub cause-refuted : (i n : ℕ) (r : Reason) → w ≡ cause.Refuted i n r → whyAs x ≡ reasonNumbers i r → whyAs x ≡ whyNumbers (causedAs w)
   unfolding whyNumbers
   cause-refuted i n r z e = e ∙ sym (ap (λ (y : Cause). whyNumbers (causedAs y)) z)
 
-pub ruleset causing = (cause-refused, cause-fits, cause-refuted)
+pub ruleset causing = (cause-refused, cause-fits, cause-halted, cause-refuted)
 
 -- ---- `khuyapesh_why`
 pub why-told : (bs : List ℕ) (w : Cause) (x : WhyNumbers) → causedAs w ≡ whyOf bs → whyAs x ≡ whyNumbers (causedAs w) → whyAs x ≡ whyNumbers (whyOf bs)
@@ -154,7 +168,7 @@ pub ruleset finding = (found-end, found-cut, found-whole)
 abbrev pub toldIn : ℕ × (ℕ × List ℕ) → known.Told
 toldIn (r, (i, o)) =
     pick (leb 500 r) (known.refused (r - 500))
-    (pick (eqb r 0) (known.known (setsOf record { alive = true; codes = take fieldCount o })) (known.refuted i))
+    (pick (eqb r 0) (known.known (setsOf record { alive = true; codes = take fieldCount o })) (pick (eqb r 2) (known.notJudged i) (known.refuted i)))
 
 refused-in : (n i : ℕ) (o : List ℕ) → toldIn (500 + n, (i, o)) ≡ known.refused n
 refused-in n i o = let e : 500 + n - 500 ≡ n = omega arith in simp (le-leb 500 (500 + n) (omega arith)) (ap known.refused e)
@@ -162,6 +176,7 @@ refused-in n i o = let e : 500 + n - 500 ≡ n = omega arith in simp (le-leb 500
 told-back : (x : Telling × List ℕ) (o : List ℕ) → length (x .1) ≡ fieldCount → toldIn (knownLeft x o) ≡ toldBy x
 told-back (unread n, cs) o l = refused-in n 0 o
 told-back (broken i, cs) o l = refl
+told-back (halted i, cs) o l = refl
 told-back (sets, cs) o l = ap (λ (y : List ℕ). known.known (setsOf record { alive = true; codes = y })) (over-take cs o fieldCount l)
 
 module _ (bs : List ℕ) (k : ℕ) (o : List ℕ) where
@@ -183,6 +198,10 @@ module _ (bs : List ℕ) (k : ℕ) (o : List ℕ) where
   pub known-refutes : (i : ℕ) (o′ : List ℕ) → knownNumbers bs k o ≡ (1, (i, o′)) → RightlyTold bs k (known.refuted i)
   known-refutes i o′ e = ⊎-elim (λ z. absurd (omega arith)) (λ h. h) (known-numbers (1, (i, o′)) e)
 
+  -- 2: the recording is not judged from the exchange at the place on
+  pub known-halts : (i : ℕ) (o′ : List ℕ) → knownNumbers bs k o ≡ (2, (i, o′)) → RightlyTold bs k (known.notJudged i)
+  known-halts i o′ e = ⊎-elim (λ z. absurd (omega arith)) (λ h. h) (known-numbers (2, (i, o′)) e)
+
   -- 500 + m: the recording is refused, Jm
   pub known-refuses : (m i : ℕ) (o′ : List ℕ) → knownNumbers bs k o ≡ (500 + m, (i, o′)) → RightlyTold bs k (known.refused m)
   known-refuses m i o′ e = ⊎-elim (λ z. absurd (omega arith)) (subst (RightlyTold bs k) (refused-in m i o′)) (known-numbers (500 + m, (i, o′)) e)
@@ -194,12 +213,14 @@ reasonIn r f h n =
     (pick (eqb r 2) known.unanswered (pick (eqb r 3) known.impossible (known.conflict (fieldAt f) (has (fieldAt f) h) (has (fieldAt f) n))))
 
 abbrev pub whyIn : ℕ → ℕ × (ℕ × (ℕ × (ℕ × ℕ))) → known.Why
-whyIn m (r, (i, (f, (h, n)))) = pick (leb 500 r) (known.unread (r - 500)) (pick (eqb r 0) (known.fitting m) (known.because i m (reasonIn r f h n)))
+whyIn m (r, (i, (f, (h, n)))) =
+    pick (leb 500 r) (known.unread (r - 500)) (pick (eqb r 0) (known.fitting m) (pick (eqb r 5) (known.unjudged i m) (known.because i m (reasonIn r f h n))))
 
 why-back : (x : Caused) → (m : ℕ) × (whyIn m (whyNumbers x) ≡ reasonedBy x)
 unfolding whyNumbers
 why-back (unexplained n) = let e : 500 + n - 500 ≡ n = omega arith in (0, simp (le-leb 500 (500 + n) (omega arith)) (ap known.unread e))
 why-back (fitting n) = (n, refl)
+why-back (unjudged i n) = (n, refl)
 why-back (because i n (reason.Answered s)) = (n, refl)
 why-back (because i n reason.Unanswered) = (n, refl)
 why-back (because i n reason.Impossible) = (n, refl)

@@ -4,7 +4,7 @@ use Prim.Native.Nat.{ℕ, _+_, _≤_, _<_}
 use mathlib.Core.Bool.{Bool, true, false}
 use mathlib.Core.Path.{_≡_, refl, sym, ap, subst, _∙_}
 use mathlib.Core.List.{List}
-use mathlib.Core.Logic.{_⊎_, inl, inr, ⊎-elim}
+use mathlib.Core.Logic.{_⊎_, inl, inr}
 use native.Mathlib.Omega.{arith}
 use lib.Dec.{leb}
 use lib.ListN.{length, take}
@@ -25,40 +25,29 @@ use Rattle.frame.specs.Answer as frame
 use Rattle.frame.proofs.Laws.{frame-length, tail-low, framed, found-sizes, taken}
 use Rattle.frame.proofs.RoundTrip.{read-built}
 use Rattle.controller.specs.Call.{Outcome, callOf}
-use Rattle.controller.proofs.Theorems.{Silenced, Answered, every-input, call-keeps-valid}
+use Rattle.controller.proofs.Theorems.{Answered, every-input, call-keeps-valid}
 use Rattle.controller.proofs.Exactly.{never-first}
 use Rattle.several.specs.Several.{Several, severalOf}
 use Rattle.several.proofs.Theorems.{several-valid, several-heard}
 use Rattle.exports.specs.Bytes.{silenceAnswer, storedAnswer, noSuch, hostLeft, isKind, kindOf, isEvent, eventOf, hasRoom, openOf, inPlace, callLeft, callBytes, SeveralLeft, severalNumbers, nothingTaken, severalLeft, severalBytes, panelBytes, storedBytes, buildBytes, readBytes}
-use Rattle.exports.proofs.Steps.{tail-high, record-valid, open-read, opened-by}
+use Rattle.exports.proofs.Steps.{tail-high, record-valid, open-read, opened-by, open-tells, opened-valid}
+use Rattle.exports.proofs.InPlace.{either, Within, open-cases, answers, replies}
 
--- what holds of both holds of the one that a test leaves
-pub either : {A : Type 0} (P : A → Type 0) (b : Bool) (x y : A) → P x → P y → P (unless b x y)
-either P true x y p q = q
-either P false x y p q = p
-
-abbrev pub Within : ℕ → ℕ → ℕ → Type 0
-Within low high n = (low ≤ n) × (n ≤ high)
-
--- K1 to K4 or K6, and the numbers that are answered for them
-abbrev pub Stored : ℕ → Type 0
-Stored n = Within 1 4 n ⊎ (n ≡ 6)
-
+-- K1 to K4 or K6, by the numbers that are answered for them
 abbrev pub StoredAnswer : ℕ → Type 0
 StoredAnswer n = Within 201 204 n ⊎ (n ≡ 206)
 
-stored-answered : (n : ℕ) → Stored n → StoredAnswer (200 + n)
-stored-answered n (inl w) = inl (omega arith)
-stored-answered n (inr e) = inr (omega arith)
+pub stored-high : (n : ℕ) → StoredAnswer n → 100 ≤ n
+stored-high n (inl w) = omega arith
+stored-high n (inr e) = omega arith
+
+pub record-number : (s : List ℕ) → (openOf s .0 ≡ 0) ⊎ StoredAnswer (openOf s .0)
+record-number s =
+    opened-by s (λ (p : ℕ × Record). (p .0 ≡ 0) ⊎ StoredAnswer (p .0)) (λ n r e. inr (inl (let w = read-refusal s n r e in omega (arith, w .low, w .high))))
+    (λ r e b f. either (λ (n : ℕ). (n ≡ 0) ⊎ StoredAnswer n) b 206 0 (inr (inr refl)) (inl refl))
 
 -- ---- a record that is lent to be written in its place, whatever is done with it
 module _ {A : Type 0} (s : List ℕ) (refusal : ℕ → A) (on : Record → A) where
-  open-cases : (P : A → Type 0) → ((n : ℕ) → Stored n → P (refusal (200 + n))) → ((r : Record) → stored.readOf s ≡ (done, r) → P (on r))
-      → P (inPlace (openOf s) refusal on)
-  open-cases P refused opened =
-      opened-by s (λ (p : ℕ × Record). P (inPlace p refusal on)) (λ n r e. simp (ne-eqb (200 + n) 0 (λ z. omega arith)) (refused n (inl (let w = read-refusal s n r e in (w .low, w .high)))))
-      (λ r e b f. either (λ (n : ℕ). P (inPlace (n, r) refusal on)) b 206 0 (refused 6 (inr refl)) (opened r e))
-
   -- on bytes that are stored right, by their room
   module _ (r : Record) (e : stored.readOf s ≡ (done, r)) where
     read-so : inPlace (openOf s) refusal on ≡ inPlace (unless (hasRoom s) 206 0, r) refusal on
@@ -103,45 +92,32 @@ module _ (kind : ℕ) (s q o : List ℕ) where
       unfolding callBytes
       call-older none = simp (le-leb kind 1 known) (without-room s (λ n. (n, (s, o))) (λ t. callLeft (callOf (kindOf kind) t q o) s o) r e none)
 
-  -- the cases of a call
-  call-cases : (P : ℕ × (List ℕ × List ℕ) → Type 0) → P (noSuch, (s, o)) → ((n : ℕ) → Stored n → P (200 + n, (s, o)))
-      → ((n : ℕ) → Within 2 8 n → P (silenceAnswer n, (s, o)))
-      → ((r : Record) → stored.readOf s ≡ (done, r) → Answered (kindOf kind) r q o → P (called r .reported, (storedForm (called r .after), called r .buffer)))
-      → P (callBytes kind s q o)
-  unfolding callBytes
-  call-cases P none refused silenced heard =
-      either P (isKind kind) (noSuch, (s, o)) (inPlace (openOf s) (λ n. (n, (s, o))) (λ r. callLeft (called r) s o)) none
-      (open-cases s (λ n. (n, (s, o))) (λ r. callLeft (called r) s o) P refused
-      (λ r e.
-      ⊎-elim
-      (λ (x : Silenced (kindOf kind) r q o).
-      let l : 1 ≤ called r .silence = x .low in
-      let h : called r .silence ≤ 8 = x .high in
-      let z : called r .silence ≡ 1 → ⊥ = never-first (kindOf kind) r q o (record-valid s done r e) in
-      subst P (sym (left-silent r (λ y. omega arith))) (silenced (called r .silence) (omega arith)))
-      (λ (x : Answered (kindOf kind) r q o). subst P (sym (left-heard r (x .heard))) (heard r e x))
-      (every-input (kindOf kind) r q o)))
+  never-silent : (r : Record) → openOf s ≡ (0, r) → called r .silence ≡ 1 → ⊥
+  never-silent r e = never-first (kindOf kind) r q o (opened-valid s r e)
 
-  -- "the reply's length", "or no such kind, then K1 to K4, then K6, then S2 to S8"; so 101 never comes back, and an answer below 100 is a reply
+  -- "the reply's length", "or no such kind, then K1 to K4, then K6, then S2 to S8"; "a refusal or silence leaves every lent byte as it was"
+  call-answers : (Within 7 64 (callBytes kind s q o .0) ⊎ (Within 102 108 (callBytes kind s q o .0) ⊎ (StoredAnswer (callBytes kind s q o .0) ⊎ (callBytes kind s q o .0 ≡ 300)))) × (100 ≤ callBytes kind s q o .0 → callBytes kind s q o .1 ≡ (s, o))
+  unfolding callBytes callLeft
+  call-answers =
+      answers (openOf s) StoredAnswer (record-number s) kind (s, o) called (λ r. (storedForm (called r .after), called r .buffer)) o
+      (λ r. Answered (kindOf kind) r q o) (λ r. every-input (kindOf kind) r q o) (λ r x. (x .heard, (x .low, x .high))) never-silent
+
   pub call-numbers : Within 7 64 (callBytes kind s q o .0) ⊎ (Within 102 108 (callBytes kind s q o .0) ⊎ (StoredAnswer (callBytes kind s q o .0) ⊎ (callBytes kind s q o .0 ≡ 300)))
-  call-numbers =
-      call-cases (λ (p : ℕ × (List ℕ × List ℕ)). Within 7 64 (p .0) ⊎ (Within 102 108 (p .0) ⊎ (StoredAnswer (p .0) ⊎ (p .0 ≡ 300)))) (inr (inr (inr refl)))
-      (λ n w. inr (inr (inl (stored-answered n w)))) (λ n w. inr (inl (omega arith))) (λ r e x. inl (x .low, x .high))
+  call-numbers = call-answers .0
 
-  -- "A refusal or silence leaves every lent byte as it was"
   pub call-keeps : 100 ≤ callBytes kind s q o .0 → callBytes kind s q o .1 ≡ (s, o)
-  call-keeps =
-      call-cases (λ (p : ℕ × (List ℕ × List ℕ)). 100 ≤ p .0 → p .1 ≡ (s, o)) (λ h. refl) (λ n w h. refl) (λ n w h. refl)
-      (λ r e x h. absurd (omega (arith, x .high)))
+  call-keeps = call-answers .1
 
   -- "the record after it in place of the stored record": it is what the stored bytes then read as
   pub call-stores : callBytes kind s q o .0 < 100 → stored.readOf (callBytes kind s q o .1 .0) ≡ (done, callOf (kindOf kind) (stored.readOf s .1) q o .after)
+  unfolding callBytes callLeft
   call-stores =
-      call-cases (λ (p : ℕ × (List ℕ × List ℕ)). p .0 < 100 → stored.readOf (p .1 .0) ≡ (done, callOf (kindOf kind) (stored.readOf s .1) q o .after))
-      (λ h. absurd (omega arith)) (λ n w h. absurd (omega arith)) (λ n w h. absurd (omega arith))
-      (λ r e x h.
-      form-read (called r .after) (call-keeps-valid (kindOf kind) r q o (record-valid s done r e))
-      ∙ ap (λ (y : stored.Outcome × Record). (done, callOf (kindOf kind) (y .1) q o .after)) (sym e))
+      replies (openOf s) StoredAnswer (record-number s) kind (s, o) called (λ r. (storedForm (called r .after), called r .buffer)) o
+      (λ r. Answered (kindOf kind) r q o) (λ r. every-input (kindOf kind) r q o) (λ r x. (x .heard, (x .low, x .high))) never-silent
+      (λ p r. stored.readOf (p .0) ≡ (done, callOf (kindOf kind) (stored.readOf s .1) q o .after)) stored-high
+      (λ r e x.
+      form-read (called r .after) (call-keeps-valid (kindOf kind) r q o (opened-valid s r e))
+      ∙ ap (λ (y : stored.Outcome × Record). (done, callOf (kindOf kind) (y .1) q o .after)) (sym (open-tells s r e .0)))
 
 -- ---- `khuyapesh_several`
 module _ (s b o : List ℕ) where
@@ -164,16 +140,17 @@ module _ (s b o : List ℕ) where
       unfolding severalBytes
       several-served room = with-room s (λ n. nothingTaken n s o) (λ t. severalLeft (severalOf t b o) s o) r e room ∙ left-served
 
-  several-cases : (P : SeveralLeft → Type 0) → ((n : ℕ) → Stored n → P (nothingTaken (200 + n) s o))
+  several-cases : (P : SeveralLeft → Type 0) → ((n : ℕ) → StoredAnswer n → P (nothingTaken n s o))
       → ((r : Record) → stored.readOf s ≡ (done, r) → P (servedLeft r)) → P (severalBytes s b o)
   unfolding severalBytes
   several-cases P refused answered =
-      open-cases s (λ n. nothingTaken n s o) (λ r. severalLeft (served r) s o) P refused (λ r e. subst P (sym (left-served r e)) (answered r e))
+      open-cases (openOf s) StoredAnswer (record-number s) (λ n. nothingTaken n s o) (λ r. severalLeft (served r) s o) P refused
+      (λ r e. let f = open-tells s r e .0 in subst P (sym (left-served r f)) (answered r f))
 
   -- 0, or "K1 to K4, then K6"; so 101 never comes back
   pub several-numbers : (severalBytes s b o .answer ≡ 0) ⊎ StoredAnswer (severalBytes s b o .answer)
   several-numbers =
-      several-cases (λ (y : SeveralLeft). (y .answer ≡ 0) ⊎ StoredAnswer (y .answer)) (λ n w. inr (stored-answered n w)) (λ r e. inl refl)
+      several-cases (λ (y : SeveralLeft). (y .answer ≡ 0) ⊎ StoredAnswer (y .answer)) (λ n w. inr w) (λ r e. inl refl)
 
   -- "the three numbers are 0 and nothing else is changed"
   pub several-keeps : 100 ≤ severalBytes s b o .answer → severalBytes s b o ≡ nothingTaken (severalBytes s b o .answer) s o
@@ -184,23 +161,24 @@ module _ (s b o : List ℕ) where
   pub several-stores : severalBytes s b o .answer ≡ 0 → stored.readOf (severalBytes s b o .stored) ≡ (done, severalOf (stored.readOf s .1) b o .after)
   several-stores =
       several-cases (λ (y : SeveralLeft). y .answer ≡ 0 → stored.readOf (y .stored) ≡ (done, severalOf (stored.readOf s .1) b o .after))
-      (λ n w h. absurd (omega arith))
+      (λ n w h. absurd (omega (arith, stored-high n w)))
       (λ r e h.
       form-read (served r .after) (several-valid r b o (record-valid s done r e))
       ∙ ap (λ (y : stored.Outcome × Record). (done, severalOf (y .1) b o .after)) (sym e))
 
 -- ---- `khuyapesh_panel`
 module _ (event number : ℕ) (s : List ℕ) where
-  panel-cases : (P : ℕ × List ℕ → Type 0) → P (noSuch, s) → ((n : ℕ) → Stored n → P (200 + n, s))
+  panel-cases : (P : ℕ × List ℕ → Type 0) → P (noSuch, s) → ((n : ℕ) → StoredAnswer n → P (n, s))
       → ((r : Record) → stored.readOf s ≡ (done, r) → P (0, storedForm (after (eventOf event number) r))) → P (panelBytes event number s)
   unfolding panelBytes
   panel-cases P none refused stored-so =
       either P (isEvent event) (noSuch, s) (inPlace (openOf s) (λ n. (n, s)) (λ r. (0, storedForm (after (eventOf event number) r)))) none
-      (open-cases s (λ n. (n, s)) (λ r. (0, storedForm (after (eventOf event number) r))) P refused stored-so)
+      (open-cases (openOf s) StoredAnswer (record-number s) (λ n. (n, s)) (λ r. (0, storedForm (after (eventOf event number) r))) P refused
+      (λ r e. stored-so r (open-tells s r e .0)))
 
   pub panel-numbers : (panelBytes event number s .0 ≡ 0) ⊎ (StoredAnswer (panelBytes event number s .0) ⊎ (panelBytes event number s .0 ≡ 300))
   panel-numbers =
-      panel-cases (λ (p : ℕ × List ℕ). (p .0 ≡ 0) ⊎ (StoredAnswer (p .0) ⊎ (p .0 ≡ 300))) (inr (inr refl)) (λ n w. inr (inl (stored-answered n w))) (λ r e. inl refl)
+      panel-cases (λ (p : ℕ × List ℕ). (p .0 ≡ 0) ⊎ (StoredAnswer (p .0) ⊎ (p .0 ≡ 300))) (inr (inr refl)) (λ n w. inr (inl w)) (λ r e. inl refl)
 
   pub panel-keeps : 100 ≤ panelBytes event number s .0 → panelBytes event number s .1 ≡ s
   panel-keeps = panel-cases (λ (p : ℕ × List ℕ). 100 ≤ p .0 → p .1 ≡ s) (λ h. refl) (λ n w h. refl) (λ r e h. absurd (omega arith))
@@ -208,7 +186,7 @@ module _ (event number : ℕ) (s : List ℕ) where
   pub panel-stores : panelBytes event number s .0 ≡ 0 → stored.readOf (panelBytes event number s .1) ≡ (done, after (eventOf event number) (stored.readOf s .1))
   panel-stores =
       panel-cases (λ (p : ℕ × List ℕ). p .0 ≡ 0 → stored.readOf (p .1) ≡ (done, after (eventOf event number) (stored.readOf s .1))) (λ h. absurd (omega arith))
-      (λ n w h. absurd (omega arith))
+      (λ n w h. absurd (omega (arith, stored-high n w)))
       (λ r e h.
       form-read (after (eventOf event number) r) (after-kept r (record-valid s done r e) (eventOf event number))
       ∙ ap (λ (y : stored.Outcome × Record). (done, after (eventOf event number) (y .1))) (sym e))

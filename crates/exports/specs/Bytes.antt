@@ -20,16 +20,24 @@ use Rattle.frame.specs.declared.Kind.{Kind}
 use Rattle.frame.specs.declared.Kind.the-variants.{Minicomputer, Terminal}
 use Rattle.frame.specs.Answer as frame
 use Rattle.frame.specs.Numbers.{Answer, H, S, accepted, unit}
-use Rattle.controller.specs.Call.{Outcome, callOf}
-use Rattle.several.specs.Several.{Several, severalOf}
+use Rattle.controller.specs.Call.{OutcomeOf, Outcome, callOf}
+use Rattle.several.specs.Several.{SeveralOn, Several, severalOf}
+use Rattle.bank.specs.declared.Bank.{Bank}
+use Rattle.bank.specs.Bank.{batchesIn}
+use Rattle.storedbank.specs.StoredBank as storedbank
+use Rattle.storedbank.specs.StoredBank.{bankLength, bankForm}
+use Rattle.banked.specs.declared.Banked.{Banked}
+use Rattle.banked.specs.Banked.{with, bankedOf}
+use Rattle.banked.specs.Steps.{storedBetween}
+use Rattle.several.specs.Beside.{bankedSeveralOf}
 use Rattle.storedboard.specs.declared.Answer as storedboard
 use Rattle.storedboard.specs.declared.Answer.the-variants as answer
 use Rattle.board.specs.Board.{answerLength}
 use Rattle.storedboard.specs.StoredBoard.{Left, leftAs, storedBoardOf}
 use Rattle.drum.specs.Drum.{Told, Q, short, request, end, stop}
 use Rattle.drumstate.specs.State as drumstate
-use Rattle.recording.specs.Replay.{fits, refuted}
-use Rattle.recording.specs.Statement.{Judgement, judged, refused}
+use Rattle.recording.specs.Replay.{fits, refuted, notJudged}
+use Rattle.recording.specs.Statement.{Judgement, judged, refused, asks}
 use Rattle.recording.specs.declared.Next.{Next}
 use Rattle.recording.specs.declared.Next.the-variants as next
 use Rattle.knowledge.specs.declared.Knowledge.{Knowledge}
@@ -37,10 +45,11 @@ use Rattle.knowledge.specs.Knowledge.{roomFor, lentIn, mayHold}
 use Rattle.hearing.specs.Hearing.{exchange, exchangeLearnt}
 use Rattle.reason.specs.declared.Reason.{Reason}
 use Rattle.reason.specs.declared.Reason.the-variants as reason
-use Rattle.judging.specs.Judge.{Telling, unread, broken, sets, knownOf, Caused, unexplained, fitting, because}
+use Rattle.judging.specs.Judge.{Telling, unread, broken, halted, sets, knownOf, Caused, unexplained, fitting, unjudged, because}
 use Rattle.exports.specs.declared.Numbers.{Numbers}
 use Rattle.exports.specs.declared.WhyNumbers.{WhyNumbers}
 use Rattle.exports.specs.declared.Found.{Found}
+use Rattle.exports.specs.declared.Opened.{Opened}
 
 -- ---- the numbers
 
@@ -102,8 +111,8 @@ openRead (a, r) room = (openAnswer a room, r)
 unfoldable pub openOf : List ℕ → ℕ × Record
 openOf s = openRead (stored.readOf s) (hasRoom s)
 
--- what a refusal leaves, by its answer, or what is done with the record
-abbrev pub inPlace : {A : Type 0} → ℕ × Record → (ℕ → A) → (Record → A) → A
+-- what a refusal leaves, by its answer, or what is done with what was opened
+abbrev pub inPlace : {A S : Type 0} → ℕ × S → (ℕ → A) → (S → A) → A
 inPlace (n, r) refusal on = pick (eqb n 0) (on r) (refusal n)
 
 -- ---- khuyapesh_call: the answer, the stored bytes and the reply buffer
@@ -147,6 +156,61 @@ severalLeft c s o =
 -- "K1 to K4, then K6"; b are the lent bytes
 unfoldable pub severalBytes : List ℕ → List ℕ → List ℕ → SeveralLeft
 severalBytes s b o = inPlace (openOf s) (λ n. nothingTaken n s o) (λ r. severalLeft (severalOf r b o) s o)
+
+-- ---- a bank that is lent beside the record: b are its bytes
+
+-- "K7 for the bank"
+abbrev pub bankAnswer : storedbank.Outcome → ℕ
+bankAnswer (storedbank.K n) = 200 + n
+bankAnswer storedbank.done = 0
+
+-- "then K1 to K4 or K6 for the record ..., then K7 for the bank"
+unfoldable pub openBanked : List ℕ → List ℕ → ℕ × Banked
+openBanked s b =
+    (unless (eqb (openOf s .0) 0) (openOf s .0) (bankAnswer (storedbank.openOf b .0)), with (openOf s .1) (storedbank.openOf b .1))
+
+abbrev pub openedAs : Opened → ℕ × Banked
+openedAs x = (x .answer, x .held)
+
+-- "the bank after it in its place": where a batch was stored it is written over the start of the bytes, and else it stands there
+abbrev pub bankLeft : Banked → Banked → List ℕ → List ℕ
+bankLeft h c b = pick (storedBetween (h .state) (c .state)) (over (bankForm (batchesIn (c .bank))) b) b
+
+-- the code's part of that, whatever the bank
+unfoldable pub savedBank : Record → Record → Bank → List ℕ → List ℕ
+savedBank r t k b = pick (storedBetween r t) (storedbank.writeOf k b .1) b
+
+-- ---- khuyapesh_banked_call: the answer, the stored bytes, the bank's and the reply buffer
+unfoldable pub bankedLeft : Banked → OutcomeOf Banked → List ℕ → List ℕ → List ℕ → ℕ × (List ℕ × (List ℕ × List ℕ))
+bankedLeft h c s b o =
+    pick (eqb (c .silence) 0) (c .reported, (storedForm (c .after .state), (bankLeft h (c .after) b, c .buffer)))
+    (silenceAnswer (c .silence), (s, (b, o)))
+
+-- "no such kind, then .."
+unfoldable pub bankedBytes : ℕ → List ℕ → List ℕ → List ℕ → List ℕ → ℕ × (List ℕ × (List ℕ × List ℕ))
+bankedBytes kind s b q o =
+    unless (isKind kind) (noSuch, (s, (b, o)))
+    (inPlace (openBanked s b) (λ n. (n, (s, (b, o)))) (λ h. bankedLeft h (bankedOf (kindOf kind) h q o) s b o))
+
+-- ---- khuyapesh_banked_several: as khuyapesh_several, and the bank's bytes
+unfoldable pub bankedSeveralLeft : SeveralOn Banked → List ℕ → List ℕ → List ℕ → SeveralLeft × List ℕ
+bankedSeveralLeft c s b o =
+    pick (eqb (c .silence) 0)
+    (severalNumbers 0 (c .taken) (c .answered) (c .written) (storedForm (c .after .state)) (c .buffer), over (bankForm (batchesIn (c .after .bank))) b)
+    (nothingTaken (silenceAnswer (c .silence)) s o, b)
+
+-- t are the lent bytes
+unfoldable pub bankedSeveralBytes : List ℕ → List ℕ → List ℕ → List ℕ → SeveralLeft × List ℕ
+bankedSeveralBytes s b t o =
+    inPlace (openBanked s b) (λ n. (nothingTaken n s o, b)) (λ h. bankedSeveralLeft (bankedSeveralOf h t o) s b o)
+
+-- ---- khuyapesh_bank: the answer and the buffer
+-- "writes the bank that was read to the start of out, the rest of which stays. Answers K6 if out is shorter than what would be written, with out
+-- untouched; else .. or K7, and then the bank written is the empty one"
+unfoldable pub bankBytes : List ℕ → List ℕ → ℕ × List ℕ
+bankBytes b o =
+    unless (leb (bankLength (storedbank.readOf b .1 .count)) (length o)) (206, o)
+    (bankAnswer (storedbank.readOf b .0), over (bankForm (batchesIn (storedbank.readOf b .1))) o)
 
 -- ---- khuyapesh_board: the answer, the stored bytes and the reply buffer
 
@@ -216,17 +280,19 @@ unfoldable pub drumLeft : drumstate.Left → ℕ × (List ℕ × List ℕ)
 drumLeft x = (drumAnswer (x .told), (x .state, x .buffer))
 
 -- ---- khuyapesh_judge: the answer, the place and the count
--- "0 for `fits N`, with 0 in *place and N in *count; 1 for `refuted at I of N`, with I in *place and N in *count; 500 + n for
--- `refused Jn`, with 0 in both"
+-- "0 for `fits N`, with 0 in *place and N in *count; 1 for `refuted at I of N`, with I in *place and N in *count; 2 for `not judged at I`, with I
+-- in *place and N in *count; 500 + n for `refused Jn`, with 0 in both"
 unfoldable pub judgeNumbers : Judgement → ℕ × (ℕ × ℕ)
 judgeNumbers (judged (fits n)) = (0, (0, n))
 judgeNumbers (judged (refuted i n)) = (1, (i, n))
+judgeNumbers (judged (notJudged i n)) = (2, (i, n))
 judgeNumbers (refused n) = (recordingAnswer n, (0, 0))
 
 -- ---- khuyapesh_known: the answer, the place and the sets
 abbrev pub knownLeft : Telling × List ℕ → List ℕ → ℕ × (ℕ × List ℕ)
 knownLeft (unread n, cs) o = (recordingAnswer n, (0, o))
 knownLeft (broken i, cs) o = (1, (i, o))
+knownLeft (halted i, cs) o = (2, (i, o))
 knownLeft (sets, cs) o = (0, (0, over cs o))
 
 -- "H1 for under KHUYAPESH_FIELDS sets, then J1 to J5"
@@ -238,7 +304,8 @@ abbrev pub learntLeft : Knowledge → List ℕ → ℕ × List ℕ
 learntLeft k o = pick (k .alive) (0, over (k .codes) o) (1, o)
 
 unfoldable pub learnNumbers : ℕ → ℕ → List ℕ → List ℕ → List ℕ → ℕ × List ℕ
-learnNumbers a c q reply o = unless (roomFor o) (401, o) (learntLeft (exchangeLearnt a c (lentIn o) (exchange q reply)) o)
+learnNumbers a c q reply o =
+    unless (roomFor o) (401, o) (pick (asks a (exchange q reply)) (2, o) (learntLeft (exchangeLearnt a c (lentIn o) (exchange q reply)) o))
 
 -- ---- khuyapesh_may_hold
 abbrev pub mayHoldNumber : ℕ → ℕ → ℕ → ℕ
@@ -258,6 +325,7 @@ whyAs x = (x .answer, (x .place, (x .number, (x .held, x .needed))))
 unfoldable pub whyNumbers : Caused → ℕ × (ℕ × (ℕ × (ℕ × ℕ)))
 whyNumbers (unexplained n) = (recordingAnswer n, (0, (0, (0, 0))))
 whyNumbers (fitting n) = (0, (0, (0, (0, 0))))
+whyNumbers (unjudged i n) = (5, (i, (0, (0, 0))))
 whyNumbers (because i n why) = reasonNumbers i why
 
 -- ---- khuyapesh_exchange: the answer, and where the request and the reply are

@@ -1,4 +1,6 @@
 // The functions of include/khuyapesh.h, for C and Rust: bytes and numbers in, bytes and numbers out.
+use bank::Bank;
+use banked::Banked;
 use controller::Answer;
 use frame::Built;
 use frame::Kind;
@@ -16,6 +18,7 @@ use state::Event;
 use state::Record;
 use stored::Refusal;
 use stored::STORED_LENGTH;
+use storedbank::Written;
 ghost use mathlib.Core.Path.{_≡_};
 ghost use Prim.Native.Nat.{_≤_};
 ghost use lib.Dec.{leb};
@@ -24,13 +27,16 @@ ghost use Rattle.stored.specs.Form.{K, refusalNumber, answerAs, storedLength};
 ghost use Rattle.frame.specs.Numbers.{silenceNumber, lengthIn, builtAs, readAs};
 ghost use Rattle.controller.specs.Call.{answerSilence, answerLength, callOf};
 ghost use Rattle.several.specs.Several.{severalOf};
+ghost use Rattle.several.specs.Beside.{bankedSeveralOf};
+ghost use Rattle.banked.specs.Banked.{bankedOf};
+ghost use Rattle.storedbank.specs.StoredBank.{answerAs as bankReadAs};
 ghost use Rattle.drum.specs.Numbers.{toldAs};
 ghost use Rattle.drum.specs.Turns.{sizeTold};
 ghost use Rattle.drumstate.specs.State.{beginOf, takeOf};
 ghost use Rattle.recording.specs.Form as form;
 ghost use Rattle.recording.specs.Form.{exchangeAt};
 ghost use Rattle.judging.specs.Judge.{judgementOf, causedAs, whyOf};
-ghost use Rattle.exports.specs.Bytes.{silenceAnswer, storedAnswer, recordingAnswer, hostAnswer, kindOf, eventOf, openAnswer, openOf, callLeft, callBytes, severalNumbers, severalAs, severalLeft, severalBytes, heardAnswer, boardAnswer, answerLeft, Tellable, boardBytes, panelBytes, storedBytes, buildBytes, readBytes, drumAnswer, drumLeft, judgeNumbers, knownNumbers, learnNumbers, mayHoldNumber, whyAs, reasonNumbers, whyNumbers, foundAs, exchangeNumbers};
+ghost use Rattle.exports.specs.Bytes.{silenceAnswer, storedAnswer, recordingAnswer, hostAnswer, kindOf, eventOf, openAnswer, openOf, callLeft, callBytes, severalNumbers, severalAs, severalLeft, severalBytes, bankAnswer, openBanked, openedAs, savedBank, bankedLeft, bankedBytes, bankedSeveralLeft, bankedSeveralBytes, bankBytes, heardAnswer, boardAnswer, answerLeft, Tellable, boardBytes, panelBytes, storedBytes, buildBytes, readBytes, drumAnswer, drumLeft, judgeNumbers, knownNumbers, learnNumbers, mayHoldNumber, whyAs, reasonNumbers, whyNumbers, foundAs, exchangeNumbers};
 
 // ---- the numbers that are answered
 
@@ -61,6 +67,9 @@ const LAST_EVENT: u8 = 6;
 
 // No room for the form that is written.
 const NO_ROOM: u32 = STORED + 6;
+
+// A bank of wrong version, length or field.
+const NO_BANK: u32 = STORED + 7;
 
 // No room for the sets.
 const SHORT_BUFFER: u32 = HOST + 1;
@@ -317,6 +326,188 @@ pub extern "C" fn khuyapesh_several(
     numbers.answer
 }
 
+// ---- with a bank beside the record
+
+// 0, or the answer of a refusal, and what is held.
+struct Opened {
+    pub answer: u32,
+    pub held: Banked,
+}
+
+fn bank_answer(read: storedbank::Answer) -> u32
+    ensures { λ n. ⌜ n ≡ bankAnswer (bankReadAs read) ⌝ }
+{
+    match read {
+        storedbank::Answer::Whole => 0,
+        storedbank::Answer::Refused => NO_BANK,
+    }
+}
+
+// The record and the bank that the stored bytes are.
+fn open_banked(stored: &[u8], bank: &[u8]) -> Opened
+    ensures { λ x. ⌜ openedAs x ≡ openBanked (now (stored .entry)) (now (bank .entry)) ⌝ }
+{
+    let reading = stored::read(stored);
+    let read = reading.answer;
+    let record = reading.record;
+    let opening = storedbank::open(bank);
+    let opened = opening.answer;
+    let kept = opening.bank;
+    let held = Banked {
+        state: record,
+        bank: kept,
+    };
+    let answer = open_answer(read, stored.len());
+    if answer != 0 {
+        return Opened {
+            answer: answer,
+            held: held,
+        };
+    }
+    Opened {
+        answer: bank_answer(opened),
+        held: held,
+    }
+}
+
+// Writes the bank in its place if a batch was stored; else it stands there.
+fn save_bank(before: Record, after: Record, batches: Bank, bank: &mut [u8])
+    ensures { λ _. ⌜ now (bank .exit) ≡ savedBank before after batches (now (bank .entry)) ⌝ }
+{
+    if banked::stores(before, after) {
+        storedbank::write(batches, bank);
+    }
+}
+
+// One call on what the stored bytes and the bank are.
+fn banked_record(
+    kind: Kind,
+    before: Banked,
+    stored: &mut [u8],
+    bank: &mut [u8],
+    request: &[u8],
+    reply: &mut [u8],
+) -> u32
+    requires { ⌜ openBanked (now stored) (now bank) ≡ (0, before) ⌝ }
+    ensures { λ n. ⌜ (n, (now (stored .exit), (now (bank .exit), now (reply .exit)))) ≡ bankedLeft before (bankedOf kind before (now (request .entry)) (now (reply .entry))) (now (stored .entry)) (now (bank .entry)) (now (reply .entry)) ⌝ }
+{
+    let called = kept::lend_to_banked_call(kind, before, request, reply);
+    let answer = called.answer;
+    let after = called.after;
+    match answer {
+        Answer::Silent(why) => silence_answer(why),
+        Answer::Reply(n) => {
+            let old = before.state;
+            let new = after.state;
+            let batches = after.bank;
+            save_bank(old, new, batches, bank);
+            stored::write(new, stored);
+            n as u32
+        }
+    }
+}
+
+// One call of the controller with a bank.
+#[no_mangle]
+pub extern "C" fn khuyapesh_banked_call(
+    kind: u8,
+    stored: &mut [u8],
+    bank: &mut [u8],
+    request: &[u8],
+    reply: &mut [u8],
+) -> u32
+    ensures { λ n. ⌜ (n, (now (stored .exit), (now (bank .exit), now (reply .exit)))) ≡ bankedBytes kind (now (stored .entry)) (now (bank .entry)) (now (request .entry)) (now (reply .entry)) ⌝ }
+{
+    if LAST_KIND < kind {
+        return NO_SUCH;
+    }
+    let opened = open_banked(stored, bank);
+    let before = opened.held;
+    if opened.answer != 0 {
+        return opened.answer;
+    }
+    banked_record(kind_of(kind), before, stored, bank, request, reply)
+}
+
+// Several frames on what the stored bytes and the bank are.
+fn banked_several(
+    before: Banked,
+    stored: &mut [u8],
+    bank: &mut [u8],
+    bytes: &[u8],
+    reply: &mut [u8],
+) -> Numbers
+    requires { ⌜ openBanked (now stored) (now bank) ≡ (0, before) ⌝ }
+    ensures { λ x. ⌜ (severalAs x (now (stored .exit)) (now (reply .exit)), now (bank .exit)) ≡ bankedSeveralLeft (bankedSeveralOf before (now (bytes .entry)) (now (reply .entry))) (now (stored .entry)) (now (bank .entry)) (now (reply .entry)) ⌝ }
+{
+    let called = several::call_banked(before, bytes, reply);
+    let answer = called.answer;
+    let after = called.after;
+    let last = after.state;
+    let batches = after.bank;
+    match answer {
+        several::Answer::Silent(why) => nothing_taken(silence_answer(why)),
+        several::Answer::Served(report) => {
+            stored::write(last, stored);
+            storedbank::write(batches, bank);
+            Numbers {
+                answer: 0,
+                report: report,
+            }
+        }
+    }
+}
+
+fn banked_stored(stored: &mut [u8], bank: &mut [u8], bytes: &[u8], reply: &mut [u8]) -> Numbers
+    ensures { λ x. ⌜ (severalAs x (now (stored .exit)) (now (reply .exit)), now (bank .exit)) ≡ bankedSeveralBytes (now (stored .entry)) (now (bank .entry)) (now (bytes .entry)) (now (reply .entry)) ⌝ }
+{
+    let opened = open_banked(stored, bank);
+    let before = opened.held;
+    if opened.answer != 0 {
+        return nothing_taken(opened.answer);
+    }
+    banked_several(before, stored, bank, bytes, reply)
+}
+
+// All minicomputer frames in the lent bytes, with a bank.
+#[no_mangle]
+pub extern "C" fn khuyapesh_banked_several(
+    stored: &mut [u8],
+    bank: &mut [u8],
+    bytes: &[u8],
+    reply: &mut [u8],
+    taken: &mut usize,
+    answered: &mut usize,
+    written: &mut usize,
+) -> u32
+    ensures { λ n. ⌜ (severalNumbers n (now (taken .exit)) (now (answered .exit)) (now (written .exit)) (now (stored .exit)) (now (reply .exit)), now (bank .exit)) ≡ bankedSeveralBytes (now (stored .entry)) (now (bank .entry)) (now (bytes .entry)) (now (reply .entry)) ⌝ }
+{
+    let numbers = banked_stored(stored, bank, bytes, reply);
+    let report = numbers.report;
+    *taken = report.taken;
+    *answered = report.answered;
+    *written = report.written;
+    numbers.answer
+}
+
+// Reads a stored bank and writes what was read; the empty one beside a refusal.
+#[no_mangle]
+pub extern "C" fn khuyapesh_bank(bank: &[u8], out: &mut [u8]) -> u32
+    ensures { λ n. ⌜ (n, now (out .exit)) ≡ bankBytes (now (bank .entry)) (now (out .entry)) ⌝ }
+{
+    let reading = storedbank::read(bank);
+    let answer = reading.answer;
+    let read = reading.bank;
+    match storedbank::write(read, out) {
+        // never, since what is read is valid
+        Written::InvalidBank => NO_ROOM,
+        Written::ShortBuffer => NO_ROOM,
+        Written::Whole => bank_answer(answer),
+    }
+}
+
+// ---- several controllers on one board
+
 // One call of the board whose records the stored bytes are, end to end.
 #[no_mangle]
 pub extern "C" fn khuyapesh_board(
@@ -438,6 +629,11 @@ pub extern "C" fn khuyapesh_judge(recording: &[u8], place: &mut usize, count: &m
             *count = n;
             1
         }
+        Judgement::NotJudged(i, n) => {
+            *place = i;
+            *count = n;
+            2
+        }
         Judgement::Refused(refusal) => {
             *place = 0;
             *count = 0;
@@ -471,6 +667,10 @@ pub extern "C" fn khuyapesh_known(
             *place = i;
             1
         }
+        Told::NotJudged(i) => {
+            *place = i;
+            2
+        }
         Told::Sets => {
             knowledge::lay(codes, sets);
             0
@@ -491,6 +691,9 @@ pub extern "C" fn khuyapesh_learn(
 {
     if sets.len() < FIELDS {
         return SHORT_BUFFER;
+    }
+    if hearing::asks_batch(address, request) {
+        return 2;
     }
     let after = hearing::learn(knowledge::lent(sets), address, access, request, reply, true);
     if !after.alive {
@@ -550,11 +753,12 @@ fn cause_numbers(cause: Cause) -> WhyNumbers
     match cause {
         Cause::Refused(refusal) => why_numbers(recording_answer(refusal), 0, 0, 0, 0),
         Cause::Fits(_) => why_numbers(0, 0, 0, 0, 0),
+        Cause::NotJudged(place, _) => why_numbers(5, place, 0, 0, 0),
         Cause::Refuted(place, _, why) => reason_numbers(place, why),
     }
 }
 
-// Why a recording is refuted.
+// Why a recording is refuted, or not judged to its end.
 #[no_mangle]
 pub extern "C" fn khuyapesh_why(
     recording: &[u8],

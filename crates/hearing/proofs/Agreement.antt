@@ -32,7 +32,7 @@ use Rattle.controller.specs.Call.{Outcome, silent, replied}
 use Rattle.controller.proofs.Steps.{byReader, call-by-reader}
 use Rattle.controller.proofs.Theorems.{host-reads}
 use Rattle.recording.specs.Form.{Exchange}
-use Rattle.recording.specs.Statement.{called, Agrees, next}
+use Rattle.recording.specs.Alone.{called, Agrees, next}
 use Rattle.hearing.specs.Hearing.{asked, heard, told}
 use Rattle.hearing.proofs.Says.{dueBy, reader, Names, FromUnit}
 

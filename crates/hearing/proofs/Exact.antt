@@ -22,7 +22,7 @@ use Rattle.knowledge.proofs.Start.{own-address}
 use Rattle.learning.specs.Learn.{learnOf, taughtOf}
 use Rattle.learning.proofs.Exact.{learn-onward, learn-back, learn-kept}
 use Rattle.recording.specs.Form.{Exchange}
-use Rattle.recording.specs.Statement.{Agrees, next}
+use Rattle.recording.specs.Alone.{Agrees, next}
 use Rattle.hearing.specs.declared.Said.{Said}
 use Rattle.hearing.specs.declared.Said.the-variants.{Quiet, Answered, Unanswered, Unreadable, Texts}
 use Rattle.hearing.specs.Hearing.{asked, told, saidOf, taughtBy, exchangeLearnt, exchangeHeard, exchangeTaught}

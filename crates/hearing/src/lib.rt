@@ -1,11 +1,16 @@
 // One exchange: what it says before any record is looked at, and what it teaches of the record.
+use command::BatchAsked;
+use controller::Heard;
 use frame::Addressed;
 use frame::Kind;
 use frame::Located;
+use frame::ROOM;
 use frame::Silence;
 use knowledge::Knowledge;
 use text::is_word;
 ghost use mathlib.Core.Path.{_≡_};
+ghost use Rattle.frame.specs.declared.Kind.the-variants.{Minicomputer};
+ghost use Rattle.banked.specs.Banked.{asksHeard};
 ghost use Rattle.hearing.specs.Hearing.{exchange, silenceSaid, replySaid, saidOf, exchangeTaught};
 
 pub enum Said {
@@ -61,6 +66,27 @@ pub fn hear(address: u8, request: &[u8], reply: &[u8]) -> Said
             replied(address, n, reply)
         }
     }
+}
+
+// Bytes of a frame that asks for a kept batch: STX, `01RT R 001`, ETX, check and PAD.
+const BATCH_FRAME: usize = 14;
+
+const BATCH_TEXT_END: usize = 11;
+
+// Whether a request asks the unit with this address for a kept batch, and is not silent. Most are told by their length.
+pub fn asks_batch(address: u8, request: &[u8]) -> bool
+    ensures { λ b. ⌜ b ≡ asksHeard Minicomputer address (now (request .entry)) ⌝ }
+{
+    if request.len() != BATCH_FRAME {
+        return false;
+    }
+    let BatchAsked::Number(_) = command::batch_asked(&request[1..BATCH_TEXT_END]) else {
+        return false;
+    };
+    let Heard::Text(_) = controller::hear(Kind::Minicomputer, true, address, request, ROOM) else {
+        return false;
+    };
+    true
 }
 
 // What an exchange teaches to one who knows the unit's address and its link's access: of the record as the request leaves it, or as it

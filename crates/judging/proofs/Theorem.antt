@@ -9,7 +9,7 @@ use native.Mathlib.Omega.{arith}
 use native.Mathlib.Numerals.{add-one}
 use lib.Dec.{eqb, ltb}
 use lib.ListN.{length, getD, take, drop, length-take}
-use lib.Seq.{length-take-le, take-suc, take-take}
+use lib.Seq.{length-take-le, take-all, take-suc, take-take}
 use borrow.Author.Tests.{ltb-true, ltb-false}
 use Rattle.base.specs.Test.{pick, unless, between}
 use Rattle.base.proofs.Tests.{and-left, and-right}
@@ -22,24 +22,29 @@ use Rattle.knowledge.proofs.Possible.{Possible, Kept}
 use Rattle.knowledge.proofs.Start.{some-record, start-possible, start-kept, start-told}
 use Rattle.knowledge.proofs.Product.{product-exactly}
 use Rattle.recording.specs.Form.{Exchange, Exchanges, whole, cut, Recording, J, recorded, recordingOf, withHeader, exchangesIn, headerWidth}
-use Rattle.recording.specs.Replay.{Answer, fits, refuted, Right}
-use Rattle.recording.specs.Statement.{Agrees, next, Fits, Judgement, judged, RightOf, Demand3}
+use Rattle.recording.specs.Replay.{Answer, fits, refuted, notJudged, NoneAsked, Right}
+use Rattle.recording.specs.Statement.{Fits, asks, Judgement, judged, RightOf, Demand3}
+use Rattle.recording.specs.Alone.{Agrees, next}
+use Rattle.recording.specs.Alone as alone
 use Rattle.recording.specs.Known.{MayHold, InProduct, ToldOf, RightlyTold, Because, WhyOf, RightlyReasoned}
 use Rattle.recording.specs.Progress.{passed, learnt, answerOf}
 use Rattle.recording.proofs.Exact.{passed-those, passed-not, passed-bound, Exactly, From, leads, learnt-sound, learnt-alive, right}
+use Rattle.recording.proofs.Asked.{before-few, before-first, before-taken, before-at, each-quiet, taken-quiet}
+use Rattle.recording.proofs.Unseen.{held-beside, because-beside, right-beside}
 use Rattle.recording.proofs.Consequences.{one-judgement}
 use Rattle.hearing.specs.Hearing.{exchange, exchangeLearnt}
 use Rattle.hearing.proofs.Exact.{onward, back, keeps}
 use Rattle.reason.specs.declared.Reason.{Reason}
 use Rattle.reason.specs.Reason.{reasonOf, reasonAs}
 use Rattle.reason.proofs.Holds.{reason-holds}
-use Rattle.judging.specs.Judge.{living, judgementFor, judgementOf, Telling, broken, sets, noSets, knownFor, knownOf, toldBy, Caused, fitting, because, whyFor, whyOf, reasonedBy}
+use Rattle.judging.specs.Judge.{living, judgeable, judgementFor, judgementOf, Telling, broken, halted, sets, noSets, knownFor, knownOf, toldBy, Caused, fitting, unjudged, because, whyFor, whyOf, reasonedBy}
 
 -- ---- an answer that is right of one predicate is right of another that it implies and that implies it
-right-along : {E : Type 0} (F G : List E → Type 0) → ((es : List E) → F es → G es) → ((es : List E) → G es → F es)
-    → (es : List E) (x : Answer) → Right F es x → Right G es x
-right-along F G there back es (fits n) h = (h .0, there es (h .1))
-right-along F G there back es (refuted i n) h = (h .0, h .1, h .2, there _ (h .3), λ g. h .4 (back _ g))
+right-along : {E : Type 0} (asks : E → Bool) (F G : List E → Type 0) → ((es : List E) → F es → G es) → ((es : List E) → G es → F es)
+    → (es : List E) (x : Answer) → Right asks F es x → Right asks G es x
+right-along asks F G there back es (fits n) h = (h .0, h .1, there es (h .2))
+right-along asks F G there back es (refuted i n) h = (h .0, h .1, h .2, there _ (h .3), λ g. h .4 (back _ g))
+right-along asks F G there back es (notJudged i n) h = (h .0, h .1, h .2, there _ (h .3))
 
 -- what holds of both choices
 unless-holds : {A : Type 0} (P : A → Type 0) (b : Bool) (x y : A) → P x → (b ≡ true → P y) → P (unless b x y)
@@ -62,19 +67,20 @@ module _ (a c : ℕ) (in-address : within (fieldRange address) a ≡ true) (in-a
   abbrev Started : List Exchange → Type 0
   Started es = From next Agrees (Kept a c) Possible (exchangeLearnt a c) living exact (start a c) es
 
-  started-fits : (es : List Exchange) → Started es → Fits a c es
+  started-fits : (es : List Exchange) → Started es → alone.Fits a c es
   started-fits es (r, t, all) =
       let s = start-told a c r in-address in-access t in
       (r, record { valid-record = s .0; same-address = s .1; same-access = s .2 }, all)
 
-  fits-started : (es : List Exchange) → Fits a c es → Started es
+  fits-started : (es : List Exchange) → alone.Fits a c es → Started es
   fits-started es (r, s, all) = (r, start-possible a c r (s .valid-record) (s .same-address) (s .same-access), all)
 
-  answer-right : (es : List Exchange) → Right (Fits a c) es (answerOf (exchangeLearnt a c) living (start a c) es)
+  answer-right : (es : List Exchange) → Right (asks a) (Fits a c) es (answerOf (exchangeLearnt a c) living (asks a) (start a c) es)
   unfolding start
   answer-right es =
-      right-along Started (Fits a c) started-fits fits-started es (answerOf (exchangeLearnt a c) living (start a c) es)
-      (right next Agrees (Kept a c) Possible (exchangeLearnt a c) living exact (start a c) es (start-kept a c in-address in-access) refl)
+      right-beside a c es (answerOf (exchangeLearnt a c) living (asks a) (start a c) es)
+      (right-along (asks a) Started (alone.Fits a c) started-fits fits-started es (answerOf (exchangeLearnt a c) living (asks a) (start a c) es)
+      (right next Agrees (Kept a c) Possible (exchangeLearnt a c) living exact (asks a) (start a c) es (start-kept a c in-address in-access) refl))
 
   -- ---- what is known after some exchanges
   module _ (es : List Exchange) where
@@ -88,7 +94,7 @@ module _ (a c : ℕ) (in-address : within (fieldRange address) a ≡ true) (in-a
     known-kept = learnt-sound next Agrees (Kept a c) Possible (exchangeLearnt a c) living exact es (start a c) (start-kept a c in-address in-access)
 
     -- the records that are possible are those that a right controller may hold
-    pub may-hold : (r : Record) → Possible knownNow r ↔ MayHold a c es r
+    pub may-hold : (r : Record) → Possible knownNow r ↔ alone.MayHold a c es r
     may-hold r =
         let l = leads next Agrees (Kept a c) Possible (exchangeLearnt a c) living exact es (start a c) (start-kept a c in-address in-access) r in (
           λ p.
@@ -102,99 +108,147 @@ module _ (a c : ℕ) (in-address : within (fieldRange address) a ≡ true) (in-a
     unfolding start
     known-alive e = learnt-alive (exchangeLearnt a c) living es (start a c) refl e
 
-  -- demand 3's answer, by whether fewer pass than there are
-  answered-by : (es : List Exchange) (b : Bool) → ltb (passedNow es) (length es) ≡ b → Right (Fits a c) es (pick b (refuted (passedNow es + 1) (length es)) (fits (length es)))
+  -- those that are judged, how many there are, and how many of them pass
+  abbrev judgedOf : List Exchange → List Exchange
+  judgedOf es = judgeable a es
+
+  abbrev passedOf : List Exchange → ℕ
+  passedOf es = passedNow (judgedOf es)
+
+  -- demand 3's answer, by whether fewer pass than are judged, and fewer are judged than there are
+  abbrev answerBy : Bool → Bool → List Exchange → Answer
+  answerBy b d es = pick b (refuted (passedOf es + 1) (length es)) (pick d (notJudged (length (judgedOf es) + 1) (length es)) (fits (length es)))
+
+  answered-by : (es : List Exchange) (b d : Bool) → ltb (passedOf es) (length (judgedOf es)) ≡ b → ltb (length (judgedOf es)) (length es) ≡ d
+      → Right (asks a) (Fits a c) es (answerBy b d es)
   unfolding answerOf
-  answered-by es b e =
-      subst (λ (x : Bool). Right (Fits a c) es (pick x (refuted (passedNow es + 1) (length es)) (fits (length es)))) e (answer-right es)
+  answered-by es b d e f =
+      subst (λ (x : Bool). Right (asks a) (Fits a c) es (answerBy b x es)) f
+      (subst (λ (x : Bool). Right (asks a) (Fits a c) es (answerBy x (ltb (length (judgedOf es)) (length es)) es)) e (answer-right es))
 
   -- what refutes the first of them refutes all
-  refuted-within : (es : List Exchange) (k i : ℕ) → Right (Fits a c) (take k es) (refuted i (length (take k es)))
-      → (i ≤ k) × Right (Fits a c) es (refuted i (length es))
+  refuted-within : (es : List Exchange) (k i : ℕ) → Right (asks a) (Fits a c) (take k es) (refuted i (length (take k es)))
+      → (i ≤ k) × Right (asks a) (Fits a c) es (refuted i (length es))
   refuted-within es k i (same, l, h, f, n) =
-      let j : i ≤ k = omega (arith, length-take k es) in (
+      let first : length (judgedOf (take k es)) ≡ length (take k (judgedOf es)) = ap length (before-taken (asks a) es k) in
+      let j : i ≤ k = omega (arith, first, length-take k (judgedOf es)) in (
         j,
         (
           refl,
           l,
-          omega (arith, length-take k es),
+          omega (arith, first, length-take k (judgedOf es)),
           subst (Fits a c) (take-take (i - 1) k es (omega arith)) f,
           λ g. n (subst (Fits a c) (sym (take-take i k es j)) g),
         ),
       )
 
+  -- one among them at which they are not judged is the one for all
+  halted-within : (es : List Exchange) (k i : ℕ) → Right (asks a) (Fits a c) (take k es) (notJudged i (length (take k es)))
+      → (i ≤ k) × Right (asks a) (Fits a c) es (notJudged i (length es))
+  halted-within es k i (same, place, inside, f) =
+      let first : judgedOf (take k es) ≡ take k (judgedOf es) = before-taken (asks a) es k in
+      let m : length (judgedOf (take k es)) ≡ length (take k (judgedOf es)) = ap length first in
+      let l = length-take k (judgedOf es) in
+      let h = length-take k es in
+      let short : length (judgedOf es) ≤ k = omega arith in
+      let all : take k (judgedOf es) ≡ judgedOf es = take-all k (judgedOf es) short in
+      let whole-so : judgedOf (take k es) ≡ judgedOf es = first ∙ all in
+      let n : length (judgedOf (take k es)) ≡ length (judgedOf es) = ap length whole-so in
+      (omega arith, (refl, place ∙ ap (λ (j : ℕ). j + 1) n, omega arith, subst (Fits a c) whole-so f))
+
   -- the codes are of the sets of what may be held
   abbrev ExactSets : List ℕ → List Exchange → Type 0
-  ExactSets cs es = Fits a c es × ((r : Record) → InProduct (setsOf record { alive = true; codes = cs }) r ↔ MayHold a c es r)
+  ExactSets cs es = NoneAsked (asks a) es × Fits a c es × ((r : Record) → InProduct (setsOf record { alive = true; codes = cs }) r ↔ MayHold a c es r)
 
-  -- all of them pass
-  sets-right : (es : List Exchange) → ltb (passedNow es) (length es) ≡ false → ExactSets (knownNow es .codes) es
-  sets-right es e =
-      let l = ltb-false (passedNow es) (length es) e in
-      let all : passedNow es ≡ length es = omega (arith, passed-bound (exchangeLearnt a c) living es (start a c)) in
-      let same : knownNow es ≡ record { alive = true; codes = knownNow es .codes } =
-      ap (λ (b : Bool). record { alive = b; codes = knownNow es .codes }) (known-alive es all) in (
-        answered-by es false e .1,
+  -- all of them are judged and pass
+  sets-right : (es : List Exchange) → ltb (passedOf es) (length (judgedOf es)) ≡ false → ltb (length (judgedOf es)) (length es) ≡ false
+      → ExactSets (knownNow (judgedOf es) .codes) es
+  sets-right es e f =
+      let answer = answered-by es false false e f in
+      let quiet : judgedOf es ≡ es = answer .1 in
+      let l = ltb-false (passedOf es) (length (judgedOf es)) e in
+      let all : passedOf es ≡ length (judgedOf es) = omega (arith, passed-bound (exchangeLearnt a c) living (judgedOf es) (start a c)) in
+      let cs : List ℕ = knownNow (judgedOf es) .codes in
+      let same : knownNow (judgedOf es) ≡ record { alive = true; codes = cs } =
+      ap (λ (b : Bool). record { alive = b; codes = cs }) (known-alive (judgedOf es) all) in (
+        quiet,
+        answer .2,
         λ r.
-            let x = product-exactly record { alive = true; codes = knownNow es .codes } refl r in
-            let y = may-hold es r in (
-              λ h. y .0 (subst (λ (z : Knowledge). Possible z r) (sym same) (x .0 h)),
-              λ h. x .1 (subst (λ (z : Knowledge). Possible z r) same (y .1 h)),
+            let x = product-exactly record { alive = true; codes = cs } refl r in
+            let y = may-hold (judgedOf es) r in
+            let z = held-beside a c es quiet r in (
+              λ h. z .0 (subst (λ (fs : List Exchange). alone.MayHold a c fs r) quiet (y .0 (subst (λ (v : Knowledge). Possible v r) (sym same) (x .0 h)))),
+              λ h. x .1 (subst (λ (v : Knowledge). Possible v r) same (y .1 (subst (λ (fs : List Exchange). alone.MayHold a c fs r) (sym quiet) (z .1 h)))),
             ),
       )
 
   told-right : (es : List Exchange) (k : ℕ) → ToldOf (recorded a c es) k (toldBy (knownFor k (recorded a c es)))
-  told-right es k = go (take k es) refl (ltb (passedNow (take k es)) (length (take k es))) refl
+  told-right es k = go (ltb (passedOf fs) (length (judgedOf fs))) refl (ltb (length (judgedOf fs)) (length fs)) refl
     where
-      go : (fs : List Exchange) → take k es ≡ fs → (b : Bool) → ltb (passedNow fs) (length fs) ≡ b
-          → ToldOf (recorded a c es) k (toldBy (pick b (broken (passedNow fs + 1), noSets) (sets, knownNow fs .codes)))
-      go fs e true q =
-          refuted-within es k (passedNow fs + 1)
-          (subst (λ (gs : List Exchange). Right (Fits a c) gs (refuted (passedNow fs + 1) (length gs))) (sym e) (answered-by fs true q))
-      go fs e false q = subst (ExactSets (knownNow fs .codes)) (sym e) (sets-right fs q)
+      fs : List Exchange
+      fs = take k es
+
+      go : (b : Bool) → ltb (passedOf fs) (length (judgedOf fs)) ≡ b → (d : Bool) → ltb (length (judgedOf fs)) (length fs) ≡ d
+          → ToldOf (recorded a c es) k (toldBy (pick b (broken (passedOf fs + 1), noSets) (pick d (halted (length (judgedOf fs) + 1), noSets) (sets, knownNow (judgedOf fs) .codes))))
+      go true q d w = refuted-within es k (passedOf fs + 1) (answered-by fs true d q w)
+      go false q true w = halted-within es k (length (judgedOf fs) + 1) (answered-by fs false true q w)
+      go false q false w = sets-right fs q w
 
   -- there is one code for each field
   told-long : (es : List Exchange) (k : ℕ) → length (knownFor k (recorded a c es) .1) ≡ fieldCount
-  told-long es k = go (take k es) (ltb (passedNow (take k es)) (length (take k es)))
+  told-long es k = go (ltb (passedOf fs) (length (judgedOf fs))) (ltb (length (judgedOf fs)) (length fs))
     where
-      go : (fs : List Exchange) (b : Bool) → length (pick {A = Telling × List ℕ} b (broken (passedNow fs + 1), noSets) (sets, knownNow fs .codes) .1) ≡ fieldCount
-      go fs true = refl
-      go fs false = known-kept fs .full
+      fs : List Exchange
+      fs = take k es
+
+      go : (b d : Bool)
+          → length (pick {A = Telling × List ℕ} b (broken (passedOf fs + 1), noSets) (pick d (halted (length (judgedOf fs) + 1), noSets) (sets, knownNow (judgedOf fs) .codes)) .1) ≡ fieldCount
+      go true d = refl
+      go false true = refl
+      go false false = known-kept (judgedOf fs) .full
 
   -- ---- why: the exchange behind those that pass, by what is known after them
   module _ (es : List Exchange) where
     abbrev before : List Exchange
-    before = take (passedNow es) es
+    before = take (passedOf es) es
 
     abbrev refuting : Exchange
-    refuting = getD es (passedNow es) (exchange [] [])
+    refuting = getD es (passedOf es) (exchange [] [])
 
     abbrev reasoned : Reason
     reasoned = reasonOf a c (knownNow before) refuting
 
-    because-so : passedNow es < length es → Because a c before refuting (reasonAs reasoned)
+    because-so : passedOf es < length (judgedOf es) → Because a c before refuting (reasonAs reasoned)
     because-so l =
-        let p = passed-those (exchangeLearnt a c) living es (start a c) in
-        let n : length before ≡ passedNow es = length-take-le (passedNow es) es (omega arith) in
-        let all : passedNow before ≡ length before = omega arith in
-        reason-holds a c in-address in-access (knownNow before) (known-kept before) (known-alive before all) refuting before (may-hold before)
-        (passed-not (exchangeLearnt a c) living es (start a c) (exchange [] []) l)
+        let p = passed-those (exchangeLearnt a c) living (judgedOf es) (start a c) in
+        let same : take (passedOf es) (judgedOf es) ≡ before = before-first (asks a) es (passedOf es) (omega arith) in
+        let n : length before ≡ passedOf es = length-take-le (passedOf es) es (let f = before-few (asks a) es in omega arith) in
+        let all : passedNow before ≡ length before = ap passedNow (sym same) ∙ (p ∙ sym n) in
+        let at : getD (judgedOf es) (passedOf es) (exchange [] []) ≡ refuting = before-at (asks a) es (passedOf es) (exchange [] []) l in
+        let dead : exchangeLearnt a c (knownNow before) refuting .alive ≡ false =
+        ap (λ (fs : List Exchange). exchangeLearnt a c (knownNow fs) refuting .alive) (sym same)
+        ∙ (ap (λ (e : Exchange). exchangeLearnt a c (knownNow (take (passedOf es) (judgedOf es))) e .alive) (sym at)
+        ∙ passed-not (exchangeLearnt a c) living (judgedOf es) (start a c) (exchange [] []) l) in
+        because-beside a c before (taken-quiet (asks a) es (passedOf es) (omega arith)) refuting (each-quiet (asks a) es (passedOf es) (exchange [] []) l) (reasonAs reasoned)
+        (reason-holds a c in-address in-access (knownNow before) (known-kept before) (known-alive before all) refuting before (may-hold before) dead)
 
     reasoned-right : WhyOf (recorded a c es) (reasonedBy (whyFor (recorded a c es)))
-    reasoned-right = go (ltb (passedNow es) (length es)) refl
+    reasoned-right = go (ltb (passedOf es) (length (judgedOf es))) refl (ltb (length (judgedOf es)) (length es)) refl
       where
-        go : (b : Bool) → ltb (passedNow es) (length es) ≡ b
-            → WhyOf (recorded a c es) (reasonedBy (pick b (because (passedNow es + 1) (length es) reasoned) (fitting (length es))))
-        go true q =
-            let l : passedNow es < length es = ltb-true (passedNow es) (length es) q in
-            let i : passedNow es + 1 - 1 ≡ passedNow es = omega arith in
-            let split : take (passedNow es + 1) es ≡ before ++ (refuting ∷ []) =
-            ap (λ (j : ℕ). take j es) (add-one (passedNow es)) ∙ take-suc es (passedNow es) (exchange [] []) l in (
-              answered-by es true q,
-              subst (λ (j : ℕ). (e : Exchange) × (take (passedNow es + 1) es ≡ take j es ++ (e ∷ [])) × Because a c (take j es) e (reasonAs reasoned)) (sym i)
+        go : (b : Bool) → ltb (passedOf es) (length (judgedOf es)) ≡ b → (d : Bool) → ltb (length (judgedOf es)) (length es) ≡ d
+            → WhyOf (recorded a c es) (reasonedBy (pick b (because (passedOf es + 1) (length es) reasoned) (pick d (unjudged (length (judgedOf es) + 1) (length es)) (fitting (length es)))))
+        go true q d w =
+            let l : passedOf es < length (judgedOf es) = ltb-true (passedOf es) (length (judgedOf es)) q in
+            let m : passedOf es < length es = let f = before-few (asks a) es in omega arith in
+            let i : passedOf es + 1 - 1 ≡ passedOf es = omega arith in
+            let split : take (passedOf es + 1) es ≡ before ++ (refuting ∷ []) =
+            ap (λ (j : ℕ). take j es) (add-one (passedOf es)) ∙ take-suc es (passedOf es) (exchange [] []) m in (
+              answered-by es true d q w,
+              subst (λ (j : ℕ). (e : Exchange) × (take (passedOf es + 1) es ≡ take j es ++ (e ∷ [])) × Because a c (take j es) e (reasonAs reasoned)) (sym i)
                   (refuting, split, because-so l),
             )
-        go false q = answered-by es false q
+        go false q true w = answered-by es false true q w
+        go false q false w = answered-by es false false q w
 
 -- ---- what holds of the two ends of every recording's tests holds of every recording
 record Rightly (x : Recording) : Type 0 where
@@ -248,13 +302,14 @@ why-right bs = each-right bs .reasoned
 pub judge-unique : (bs : List ℕ) (j : Judgement) → Demand3 bs j → j ≡ judgementOf bs
 judge-unique bs j h = one-judgement bs j (judgementOf bs) h (judgement-right bs)
 
--- of a recording that is well-formed, the answer is `fits` if and only if for some record to start from all of the exchanges agree
-pub judged-fits : (bs : List ℕ) (a c : ℕ) (es : List Exchange) → recordingOf bs ≡ recorded a c es
+-- of a recording that is well-formed and has no request for a kept batch that is not silent, the answer is `fits` if and only if for some
+-- record to start from all of the exchanges agree
+pub judged-fits : (bs : List ℕ) (a c : ℕ) (es : List Exchange) → recordingOf bs ≡ recorded a c es → NoneAsked (asks a) es
     → judgementOf bs ≡ judged (fits (length es)) ↔ Fits a c es
-judged-fits bs a c es e =
+judged-fits bs a c es e none =
     let n : ℕ = length es in (
-      λ h. subst (λ (x : Recording). RightOf x (judged (fits n))) e (subst (Demand3 bs) h (judgement-right bs)) .1,
-      λ h. sym (judge-unique bs (judged (fits n)) (subst (λ (x : Recording). RightOf x (judged (fits n))) (sym e) (refl, h))),
+      λ h. subst (λ (x : Recording). RightOf x (judged (fits n))) e (subst (Demand3 bs) h (judgement-right bs)) .2,
+      λ h. sym (judge-unique bs (judged (fits n)) (subst (λ (x : Recording). RightOf x (judged (fits n))) (sym e) (refl, none, h))),
     )
 
 -- what equals the judge's answer meets demand 3

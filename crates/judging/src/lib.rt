@@ -9,36 +9,40 @@ use recording::Refusal;
 ghost use mathlib.Core.Path.{_≡_};
 ghost use Rattle.recording.specs.Statement.{Demand3};
 ghost use Rattle.recording.specs.Known.{RightlyTold, RightlyReasoned};
-ghost use Rattle.judging.specs.Judge.{judgementAs, judgementOf, tellingAs, noSets, knownAs, knownOf, toldBy, causedAs, whyOf, reasonedBy, Followed, WellFormed, Breaks};
+ghost use Rattle.judging.specs.Judge.{judgementAs, judgementOf, tellingAs, sets, noSets, knownAs, knownOf, toldBy, causedAs, whyOf, reasonedBy, Followed, WellFormed, Breaks};
 
-// Fits N, refuted at I of N, or refused.
+// Fits N, refuted at I of N, not judged at I of N, or refused.
 pub enum Judgement {
     Fits(usize),
     Refuted(usize, usize),
+    NotJudged(usize, usize),
     Refused(Refusal),
 }
 
-// Refused, the exchange that refutes, or the sets.
+// Refused, the exchange that refutes, the one at which it is not judged, or the sets.
 pub enum Told {
     Refused(Refusal),
     Refuted(usize),
+    NotJudged(usize),
     Sets,
 }
 
-// What is told, and the code of each field's set; beside a refusal or a refutation no set has a number.
+// What is told, and the code of each field's set; beside all but sets no set has a number.
 pub struct Findings {
     pub told: Told,
     pub codes: [u32; FIELDS],
 }
 
-// Refused, fits N, or refuted at I of N and why.
+// Refused, fits N, not judged at I of N, or refuted at I of N and why.
 pub enum Cause {
     Refused(Refusal),
     Fits(usize),
+    NotJudged(usize, usize),
     Refuted(usize, usize, Reason),
 }
 
-// How far the exchanges were followed: how many passed, where the next one starts, and what is known then; dead if that one refutes.
+// How far the exchanges were followed: how many passed, where the next one starts, and what is known then; dead if that one refutes. If it
+// does not, and there is a next one, that one asks for a kept batch.
 pub struct Progress {
     pub passed: usize,
     pub at: usize,
@@ -55,7 +59,8 @@ fn so_far(passed: usize, at: usize, known: Knowledge) -> Progress
     }
 }
 
-// Follows the exchanges of a recording that is well-formed, so many at most, up to one that leaves no record possible.
+// Follows the exchanges of a recording that is well-formed, so many at most, up to one that leaves no record possible or asks for a kept
+// batch.
 fn follow(s: &[u8], address: u8, access: u8, most: usize) -> Progress
     requires { ⌜ WellFormed (now s) address access ⌝ }
     ensures { λ p. ⌜ Followed (now (s .entry)) address access most p ⌝ }
@@ -77,6 +82,9 @@ fn follow(s: &[u8], address: u8, access: u8, most: usize) -> Progress
                 let stop = spans.stop;
                 let reply = spans.reply;
                 let end = spans.end;
+                if hearing::asks_batch(address, &s[request..stop]) {
+                    return so_far(passed, at, known);
+                }
                 known = hearing::learn(
                     known,
                     address,
@@ -105,10 +113,13 @@ pub fn judge(s: &[u8]) -> Judgement
         Read::Refused(refusal) => Judgement::Refused(refusal),
         Read::Recorded(address, access, count) => {
             let end = follow(s, address, access, count);
-            if end.known.alive {
-                return Judgement::Fits(count);
+            if !end.known.alive {
+                return Judgement::Refuted(end.passed + 1, count);
             }
-            Judgement::Refuted(end.passed + 1, count)
+            if end.passed < count {
+                return Judgement::NotJudged(end.passed + 1, count);
+            }
+            Judgement::Fits(count)
         }
     }
 }
@@ -123,6 +134,16 @@ fn nothing(told: Told) -> Findings
     }
 }
 
+fn sets_of(known: Knowledge) -> Findings
+    ensures { λ x. ⌜ knownAs x ≡ (sets, known .codes) ⌝ }
+{
+    let codes = known.codes;
+    Findings {
+        told: Told::Sets,
+        codes: codes,
+    }
+}
+
 // What is known of the record after the first exchanges; more of them than there are count as all.
 pub fn known(s: &[u8], exchanges: usize) -> Findings
     ensures { λ x. ⌜ RightlyTold (now (s .entry)) exchanges (toldBy (knownAs x)) ⌝ }
@@ -130,17 +151,19 @@ pub fn known(s: &[u8], exchanges: usize) -> Findings
 {
     match recording::read_recording(s) {
         Read::Refused(refusal) => nothing(Told::Refused(refusal)),
-        Read::Recorded(address, access, _) => {
+        Read::Recorded(address, access, count) => {
             let end = follow(s, address, access, exchanges);
             let known = end.known;
             if !known.alive {
                 return nothing(Told::Refuted(end.passed + 1));
             }
-            let codes = known.codes;
-            Findings {
-                told: Told::Sets,
-                codes: codes,
+            if exchanges <= end.passed {
+                return sets_of(known);
             }
+            if end.passed < count {
+                return nothing(Told::NotJudged(end.passed + 1));
+            }
+            sets_of(known)
         }
     }
 }
@@ -167,7 +190,7 @@ fn cause_behind(s: &[u8], address: u8, access: u8, count: usize, passed: usize) 
     }
 }
 
-// Why a recording is refuted.
+// Why a recording is refuted, or not judged to its end.
 pub fn why(s: &[u8]) -> Cause
     ensures { λ x. ⌜ RightlyReasoned (now (s .entry)) (reasonedBy (causedAs x)) ⌝ }
     ensures { λ x. ⌜ causedAs x ≡ whyOf (now (s .entry)) ⌝ }
@@ -176,10 +199,13 @@ pub fn why(s: &[u8]) -> Cause
         Read::Refused(refusal) => Cause::Refused(refusal),
         Read::Recorded(address, access, count) => {
             let reached = follow(s, address, access, count);
-            if reached.known.alive {
-                return Cause::Fits(count);
+            if !reached.known.alive {
+                return cause_behind(s, address, access, count, reached.passed);
             }
-            cause_behind(s, address, access, count, reached.passed)
+            if reached.passed < count {
+                return Cause::NotJudged(reached.passed + 1, count);
+            }
+            Cause::Fits(count)
         }
     }
 }

@@ -1,5 +1,5 @@
 -- Laws of the judge's line: its parts one behind the other, over the start of the buffer. Assumes nothing.
-use mathlib.Core.Path.{_≡_, ap, sym, _∙_}
+use mathlib.Core.Path.{_≡_, refl, ap, sym, _∙_}
 use mathlib.Core.List.{List, [], _∷_, _++_, append-assoc}
 use mathlib.Core.Logic.{⊎-elim}
 use Prim.Native.Nat.{ℕ, _+_, _-_, _≤_, _<_}
@@ -14,9 +14,9 @@ use Rattle.text.specs.Word.{decimal}
 use Rattle.text.specs.Written.{writtenAt}
 use Rattle.text.proofs.Writing.{Laid, laid-same, joined, behind-written, decimal-high}
 use Rattle.recording.specs.Form.{refusalNumber}
-use Rattle.recording.specs.Replay.{fits, refuted}
+use Rattle.recording.specs.Replay.{refuted}
 use Rattle.recording.specs.Statement as statement
-use Rattle.recording.specs.Statement.{refused, judged}
+use Rattle.recording.specs.Statement.{judged}
 use Rattle.recording.specs.declared.Refusal.{Refusal}
 use Rattle.judging.specs.Judge.{judgementAs}
 use Rattle.judging.specs.declared.Judgement.{Judgement}
@@ -47,6 +47,9 @@ ofWord = 0x20 ∷ 0x6f ∷ 0x66 ∷ 0x20 ∷ []
 abbrev pub refusedWord : List ℕ
 refusedWord = 0x72 ∷ 0x65 ∷ 0x66 ∷ 0x75 ∷ 0x73 ∷ 0x65 ∷ 0x64 ∷ 0x20 ∷ 0x4a ∷ []
 
+abbrev pub notJudgedWord : List ℕ
+notJudgedWord = 0x6e ∷ 0x6f ∷ 0x74 ∷ 0x20 ∷ 0x6a ∷ 0x75 ∷ 0x64 ∷ 0x67 ∷ 0x65 ∷ 0x64 ∷ 0x20 ∷ 0x61 ∷ 0x74 ∷ 0x20 ∷ []
+
 pub written-none : (j : statement.Judgement) (o : List ℕ) → length o < 64 → (0, o) ≡ lineWritten j o
 unfolding lineWritten
 written-none j o h = simp (lt-leb _ _ h)
@@ -58,12 +61,22 @@ written j n o o₁ h a =
     let g : o₁ ≡ over (lineOf j) o = a .1 ∙ over-at-start (lineOf j) o in
     simp (le-leb _ _ h, l, g)
 
+-- a word, a number and the end of the line, by the answer's case
+written-last : (a b : Judgement) (w : List ℕ) (m n : ℕ) (o o₁ : List ℕ) → lineOf (judgementAs b) ≡ w ++ (decimal n ++ newline) → 64 ≤ length o → a ≡ b
+    → Laid 0 (w ++ (decimal n ++ newline)) o m o₁ → (m, o₁) ≡ lineWritten (judgementAs a) o
+written-last a b w m n o o₁ is h e f =
+    written (judgementAs b) m o o₁ h (laid-same 0 m (w ++ (decimal n ++ newline)) (lineOf (judgementAs b)) o o₁ (sym is) f)
+    ∙ ap (λ (y : Judgement). lineWritten (judgementAs y) o) (sym e)
+
 pub written-fits : (a : Judgement) (m n : ℕ) (o o₁ : List ℕ) → 64 ≤ length o → a ≡ judgement.Fits n
     → Laid 0 (fitsWord ++ (decimal n ++ newline)) o m o₁ → (m, o₁) ≡ lineWritten (judgementAs a) o
 unfolding lineOf
-written-fits a m n o o₁ h e f =
-    let w : (m, o₁) ≡ lineWritten (judged (fits n)) o = written (judged (fits n)) m o o₁ h f in
-    w ∙ ap (λ (y : Judgement). lineWritten (judgementAs y) o) (sym e)
+written-fits a m n o o₁ h e f = written-last a (judgement.Fits n) fitsWord m n o o₁ refl h e f
+
+pub written-not-judged : (a : Judgement) (m i n : ℕ) (o o₁ : List ℕ) → 64 ≤ length o → a ≡ judgement.NotJudged i n
+    → Laid 0 (notJudgedWord ++ (decimal i ++ newline)) o m o₁ → (m, o₁) ≡ lineWritten (judgementAs a) o
+unfolding lineOf
+written-not-judged a m i n o o₁ h e f = written-last a (judgement.NotJudged i n) notJudgedWord m i o o₁ refl h e f
 
 pub written-refuted : (a : Judgement) (b i m n : ℕ) (o o₁ o₂ : List ℕ) → 64 ≤ length o → a ≡ judgement.Refuted i n
     → Laid 0 (refutedWord ++ decimal i) o b o₁ → Laid b (ofWord ++ (decimal n ++ newline)) o₁ m o₂ → (m, o₂) ≡ lineWritten (judgementAs a) o
@@ -80,10 +93,9 @@ pub written-refused : (a : Judgement) (k : Refusal) (m n : ℕ) (o o₁ : List �
     → Laid 0 (refusedWord ++ (decimal n ++ newline)) o m o₁ → (m, o₁) ≡ lineWritten (judgementAs a) o
 unfolding lineOf
 written-refused a k m n o o₁ h e i f =
-    let w : (m, o₁) ≡ lineWritten (refused n) o = written (refused n) m o o₁ h f in
-    w ∙ ap (λ (y : ℕ). lineWritten (refused y) o) i ∙ ap (λ (y : Judgement). lineWritten (judgementAs y) o) (sym e)
+    written-last a (judgement.Refused k) refusedWord m n o o₁ (ap (λ (j : ℕ). refusedWord ++ (decimal j ++ newline)) (sym i)) h e f
 
-pub ruleset writing = (written-none, written-fits, written-refuted, written-refused)
+pub ruleset writing = (written-none, written-fits, written-refuted, written-not-judged, written-refused)
 
 -- ---- what is written lies within the buffer
 within : (n : ℕ) (t o o₁ : List ℕ) → _≡_ {A = ℕ × List ℕ} (n, o₁) (length t, over t o) → n ≤ length o₁

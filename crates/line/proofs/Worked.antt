@@ -1,5 +1,5 @@
 -- Document 01, "Worked on the bench record": the starred examples, controller and judge together, as one table under one statement; and
--- 02, L2, on the judge. The replies are computed on the definition that the promise of `call` cites. A recording's row is its length, demand 3 itself, and the line
+-- 02, L2 and L7, on the judge. The replies are computed on the definition that the promise of `call` cites. A recording's row is its length, demand 3 itself, and the line
 -- that `write` lays: the judge's answer is computed on its definition and is right by the theorem. Assumes nothing.
 use Prim.Native.Nat.{ℕ, _+_}
 use Prim.Native.String.{String}
@@ -11,7 +11,7 @@ use Rattle.command.specs.Bench.{bench}
 use Rattle.base.specs.Text.{text}
 use Rattle.controller.specs.Worked as controller
 use Rattle.controller.specs.Worked.{Step, EQ-frame, status-frame, OK-frame, framed, _gets_, replies, check}
-use Rattle.recording.specs.Replay.{fits, refuted}
+use Rattle.recording.specs.Replay.{fits, refuted, notJudged, beforeAsked}
 use Rattle.recording.specs.Statement.{Judgement, judged, Demand3}
 use Rattle.hearing.specs.Hearing.{silenceSaid, replySaid, saidOf, exchangeLearnt}
 use Rattle.judging.specs.Judge.{judgementOf}
@@ -22,7 +22,8 @@ use Rattle.state.specs.Parameter.{codeAt as parameterCode, rangeAt, placeOf, pl
 use Rattle.frame.specs.Frame.{withinLimits, marksRight, checkRight, xorFrom, textIn, namesUnit, addressIn, frameOf}
 use Rattle.frame.specs.Answer.{addressOf, locateOf}
 use Rattle.text.specs.Word.{digits, widthIn, decimal, equal, valueFrom, numberFor}
-use Rattle.command.specs.Commands.{codeIn, formed, digitsBetween, rowOf}
+use Rattle.command.specs.Commands.{codeIn, formed, digitsBetween, rowOf, batchAsked}
+use Rattle.banked.specs.Banked.{asksHeard}
 use Rattle.command.specs.Request.{firstByText, firstByArguments, askedWith, askedFor, askedIn, guardsIn}
 use Rattle.knowledge.specs.Sets.{maskFrom, bit, flagCode}
 use Rattle.knowledge.specs.Knowledge.{codeAt, restricted, told, becoming, advanced, replacing, start}
@@ -82,6 +83,11 @@ known-replaced status =
     recorded
     (EQ-frame gets status-frame ∷ framed "01PV 032" gets framed "01PV 032 00010150" ∷ framed "01PC 032 10150" gets OK-frame ∷ EQ-frame gets framed status ∷ [])
 
+-- 02, L7: a kept batch is asked for between EQ and one more exchange
+abbrev pub batch-asked : List ℕ → List ℕ
+batch-asked question =
+    recorded (EQ-frame gets status-frame ∷ question gets framed "01RT R 00000500 001" ∷ EQ-frame gets framed "01000800" ∷ [])
+
 -- ---- the table
 abbrev pub table : List Example
 table =
@@ -101,6 +107,9 @@ table =
     -- "exactly if the value differs from the one held; else the flag stays"
     ∷ recording (known-replaced "01000000") 112 (judged (fits 4)) "fits 4"
     ∷ recording (known-replaced "01000800") 112 (judged (refuted 4 4)) "refuted at 4 of 4"
+    -- "At the first such request not silent the judge writes `not judged at I`"; with another letter it is NO01
+    ∷ recording (batch-asked (framed "01RT R 001")) 88 (judged (notJudged 2 3)) "not judged at 2"
+    ∷ recording (batch-asked (framed "01RT G 001")) 88 (judged (refuted 2 3)) "refuted at 2 of 3"
     ∷ []
 
 -- a recording's row as it is computed, with the answer of the judge's definition
@@ -113,11 +122,11 @@ AllComputed [] = Unit {0}
 AllComputed (e ∷ es) = Computed e × AllComputed es
 
 computed : AllComputed table
-unfolding check judgementOf recordingOf exchangesIn answerOf passed exchangeLearnt saidOf replySaid silenceSaid addressOf locateOf withinLimits marksRight checkRight xorFrom textIn allBetween namesUnit addressIn frameOf digits equal valueFrom askedIn askedFor askedWith firstByText firstByArguments guardsIn rowOf codeIn formed digitsBetween heardOf learnOf numberBehind numberFor through.passed refusedBy shown statusShown charactersFormed weightLit charactersShown bitsShown listShown codesShown wordShown moved restricted told codeAt becoming advanced replacing flagCode start maskFrom bit parameterCode rangeAt placeOf placeIn widthIn decimal lineOf
+unfolding check judgementOf recordingOf exchangesIn beforeAsked asksHeard batchAsked answerOf passed exchangeLearnt saidOf replySaid silenceSaid addressOf locateOf withinLimits marksRight checkRight xorFrom textIn allBetween namesUnit addressIn frameOf digits equal valueFrom askedIn askedFor askedWith firstByText firstByArguments guardsIn rowOf codeIn formed digitsBetween heardOf learnOf numberBehind numberFor through.passed refusedBy shown statusShown charactersFormed weightLit charactersShown bitsShown listShown codesShown wordShown moved restricted told codeAt becoming advanced replacing flagCode start maskFrom bit parameterCode rangeAt placeOf placeIn widthIn decimal lineOf
 computed = (
   controller.worked,
   (refl, refl, refl) also (refl, refl, refl) also (refl, refl, refl) also (refl, refl, refl) also (refl, refl, refl) also
-      (refl, refl, refl) also (refl, refl, refl) also (refl, refl, refl) also (refl, refl, refl) also tt,
+      (refl, refl, refl) also (refl, refl, refl) also (refl, refl, refl) also (refl, refl, refl) also (refl, refl, refl) also (refl, refl, refl) also tt,
 )
 
 -- and that answer is right by the theorem

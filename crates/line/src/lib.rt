@@ -46,6 +46,7 @@ pub fn write(answer: Judgement, out: &mut [u8]) -> usize
             let behind = put_labelled(b"refuted at ", i, 0, out);
             put_last(b" of ", n, behind, out)
         }
+        Judgement::NotJudged(i, _) => put_last(b"not judged at ", i, 0, out),
         Judgement::Refused(refusal) => put_last(b"refused J", number_of(refusal) as usize, 0, out),
     }
 }

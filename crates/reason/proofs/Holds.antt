@@ -27,8 +27,8 @@ use Rattle.knowledge.proofs.Product.{chosen, set-exactly}
 use Rattle.learning.specs.Learn.{heardOf, learnOf}
 use Rattle.learning.proofs.Exact.{heard-told, heard-left, heard-kept}
 use Rattle.recording.specs.Form.{Exchange}
-use Rattle.recording.specs.Statement.{Agrees}
-use Rattle.recording.specs.Known.{MayHold, Meets, Gives, NumbersOf, Because}
+use Rattle.recording.specs.Alone.{Agrees, MayHold, Meets, Gives, Because}
+use Rattle.recording.specs.Known.{NumbersOf}
 use Rattle.hearing.specs.declared.Said.{Said}
 use Rattle.hearing.specs.declared.Said.the-variants.{Quiet, Answered, Unanswered, Unreadable, Texts}
 use Rattle.hearing.specs.Hearing.{asked, told, saidOf, taughtBy, exchangeLearnt, exchangeHeard}

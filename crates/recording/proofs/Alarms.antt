@@ -26,7 +26,7 @@ use Rattle.frame.specs.declared.Kind.the-variants.{Minicomputer}
 use Rattle.frame.specs.Frame.{frameOf, textIn}
 use Rattle.text.specs.Word.{digits}
 use Rattle.command.specs.Status.{third as thirdBits, weightIn, statusCharacters, alarmCharacters}
-use Rattle.command.specs.Commands.{codeIn}
+use Rattle.command.specs.Commands.{EQ, AR, EA, codeIn}
 use Rattle.command.specs.Refusals.{refusals}
 use Rattle.command.specs.Answer.{behindCode}
 use Rattle.command.specs.Bench.{bench}
@@ -36,8 +36,13 @@ use Rattle.controller.proofs.ReadBack.{LeavesAt, AnswersAt, alarms-read, reset-
 use Rattle.controller.proofs.Theorems.{is-reported, call-keeps-valid, accepted-by-none, record-after-reset, reset-keeps}
 use Rattle.controller.proofs.Exactly.{one-row, no-exactly}
 use Rattle.recording.specs.Form.{Exchange}
-use Rattle.recording.specs.Replay.{refuted, AllAgree}
-use Rattle.recording.specs.Statement.{Agrees, next, Start, Fits}
+use Rattle.recording.specs.Replay.{refuted, AllAgree, beforeAsked, NoneAsked}
+use Rattle.recording.specs.Alone.{Agrees, next, Start}
+use Rattle.recording.specs.Alone as alone
+use Rattle.recording.specs.Statement as statement
+use Rattle.recording.specs.Statement.{Fits}
+use Rattle.recording.proofs.Asked.{quiet-more, quiet-none}
+use Rattle.recording.proofs.Unseen.{not-asked, fits-alone, fits-beside}
 use Rattle.recording.proofs.Bites.{_gets_, asks, shown-at, heard-frame, status-at, answered, accepted-so, Only, only}
 
 -- ---- an alarm in EQ after an accepted AR is a lasting one and no further AR takes it off
@@ -74,7 +79,7 @@ record Left (a : ℕ) (s : List ℕ) (e : Exchange) : Type 0 where
   status-agrees : Agrees after (asks a (text "EQ") s)
   agrees : Agrees after e
 
-left : (a c : ℕ) (s : List ℕ) (replies : List (List ℕ)) (e : Exchange) → Fits a c (behind-reset a s replies e) → Left a s e
+left : (a c : ℕ) (s : List ℕ) (replies : List (List ℕ)) (e : Exchange) → alone.Fits a c (behind-reset a s replies e) → Left a s e
 unfolding textIn frameOf codeIn digits put
 left a c s replies e h =
     let (r, start, g) = h in
@@ -102,10 +107,23 @@ left a c s replies e h =
 third-shown : (a x : ℕ) (s : List ℕ) → getD s 2 0 ≡ x → 0 < x → getD (frameOf Minicomputer (digits 2 a ++ s)) 5 0 ≡ x
 third-shown a x s e h = shown-at a 2 s (omega arith) ∙ e
 
--- no further AR takes it off, whatever was replied
-pub lasting-stays : (a c : ℕ) (s t : List ℕ) (replies : List (List ℕ)) → getD s 2 0 ≡ 0x31 → getD t 2 0 ≡ 0x30
-    → Fits a c (behind-reset a s replies (asks a (text "EQ") t)) → ⊥
-lasting-stays a c s t replies p q h =
+-- none of these exchanges asks for a kept batch, if the last one does not
+resets-quiet : (a : ℕ) (replies : List (List ℕ)) (e : Exchange) → statement.asks a e ≡ false → NoneAsked (statement.asks a) (resets a replies ++ (e ∷ []))
+unfolding textIn frameOf codeIn digits
+resets-quiet a [] e n = quiet-more (statement.asks a) e [] n (quiet-none (statement.asks a))
+resets-quiet a (b ∷ replies) e n =
+    quiet-more (statement.asks a) (frameOf Minicomputer (digits 2 a ++ text "AR") gets b) _ (not-asked a AR (frameOf Minicomputer (digits 2 a ++ text "AR") gets b) refl refl)
+    (resets-quiet a replies e n)
+
+behind-quiet : (a : ℕ) (s : List ℕ) (replies : List (List ℕ)) (e : Exchange) → statement.asks a e ≡ false → NoneAsked (statement.asks a) (behind-reset a s replies e)
+unfolding textIn frameOf codeIn digits
+behind-quiet a s replies e n =
+    quiet-more (statement.asks a) (asks a (text "AR") (text "OK")) _ (not-asked a AR (asks a (text "AR") (text "OK")) refl refl)
+    (quiet-more (statement.asks a) (asks a (text "EQ") s) _ (not-asked a EQ (asks a (text "EQ") s) refl refl) (resets-quiet a replies e n))
+
+stays-alone : (a c : ℕ) (s t : List ℕ) (replies : List (List ℕ)) → getD s 2 0 ≡ 0x31 → getD t 2 0 ≡ 0x30
+    → alone.Fits a c (behind-reset a s replies (asks a (text "EQ") t)) → ⊥
+stays-alone a c s t replies p q h =
     let o : List ℕ = replicate 64 0 in
     let l = left a c s replies (asks a (text "EQ") t) h in
     let same : frameOf Minicomputer (digits 2 a ++ s) ≡ frameOf Minicomputer (digits 2 a ++ t) = sym (l .status-agrees o refl .1) ∙ l .agrees o refl .1 in
@@ -113,12 +131,19 @@ lasting-stays a c s t replies p q h =
     sym (third-shown a 0x31 s p (omega arith)) ∙ (ap (λ (f : List ℕ). getD f 5 0) same ∙ third-shown a 0x30 t q (omega arith)) in
     omega arith
 
--- and EA then shows lasting alarms, one at least
-pub lasting-shown : (a c : ℕ) (s b : List ℕ) (replies : List (List ℕ)) → getD s 2 0 ≡ 0x31
-    → Fits a c (behind-reset a s replies (frameOf Minicomputer (digits 2 a ++ text "EA") gets b))
+-- no further AR takes it off, whatever was replied
+pub lasting-stays : (a c : ℕ) (s t : List ℕ) (replies : List (List ℕ)) → getD s 2 0 ≡ 0x31 → getD t 2 0 ≡ 0x30
+    → Fits a c (behind-reset a s replies (asks a (text "EQ") t)) → ⊥
+unfolding textIn frameOf codeIn digits
+lasting-stays a c s t replies p q h =
+    stays-alone a c s t replies p q
+    (fits-alone a c (behind-reset a s replies (asks a (text "EQ") t)) (behind-quiet a s replies (asks a (text "EQ") t) (not-asked a EQ (asks a (text "EQ") t) refl refl)) h)
+
+shown-alone : (a c : ℕ) (s b : List ℕ) (replies : List (List ℕ)) → getD s 2 0 ≡ 0x31
+    → alone.Fits a c (behind-reset a s replies (frameOf Minicomputer (digits 2 a ++ text "EA") gets b))
     → (m : ℕ) × (m ≡ noAlarm → ⊥) × (lasting m ≡ m) × (b ≡ frameOf Minicomputer (digits 2 a ++ alarmCharacters m))
 unfolding frameOf digits statusCharacters weightIn
-lasting-shown a c s b replies p h =
+shown-alone a c s b replies p h =
     let o : List ℕ = replicate 64 0 in
     let e : Exchange = frameOf Minicomputer (digits 2 a ++ text "EA") gets b in
     let l = left a c s replies e h in
@@ -133,6 +158,15 @@ lasting-shown a c s b replies p h =
       l .lasts,
       sym alarms-are,
     )
+
+-- and EA then shows lasting alarms, one at least
+pub lasting-shown : (a c : ℕ) (s b : List ℕ) (replies : List (List ℕ)) → getD s 2 0 ≡ 0x31
+    → Fits a c (behind-reset a s replies (frameOf Minicomputer (digits 2 a ++ text "EA") gets b))
+    → (m : ℕ) × (m ≡ noAlarm → ⊥) × (lasting m ≡ m) × (b ≡ frameOf Minicomputer (digits 2 a ++ alarmCharacters m))
+unfolding textIn frameOf codeIn digits
+lasting-shown a c s b replies p h =
+    let e : Exchange = frameOf Minicomputer (digits 2 a ++ text "EA") gets b in
+    shown-alone a c s b replies p (fits-alone a c (behind-reset a s replies e) (behind-quiet a s replies e (not-asked a EA e refl refl)) h)
 
 -- ---- the bench record with another address, access and alarms
 benchWith : ℕ → ℕ → ℕ → Record
@@ -199,7 +233,7 @@ module _ (a c : ℕ) (i : within (fieldRange address) a ≡ true) (j : within (f
   -- ---- after an alarm in EQ with nothing more known of the alarms, then an accepted AR, any of the lasting may be on, or none
 
   -- by alarms w of which m last
-  reset-leaves : (w m : ℕ) → w ≤ allAlarms → statusWith w ≡ text "001000" → lasting w ≡ m → Fits a c (alarms-reset a m)
+  reset-leaves : (w m : ℕ) → w ≤ allAlarms → statusWith w ≡ text "001000" → lasting w ≡ m → alone.Fits a c (alarms-reset a m)
   reset-leaves w m h s l =
       let r : Record = benchWith a c w in
       let r′ : Record = benchWith a c m in
@@ -216,15 +250,26 @@ module _ (a c : ℕ) (i : within (fieldRange address) a ≡ true) (j : within (f
       )
 
   -- none is left of user alarm 4
-  pub reset-leaves-any : (m : ℕ) → lasting m ≡ m → Fits a c (alarms-reset a m)
-  reset-leaves-any m e =
+  leaves-alone : (m : ℕ) → lasting m ≡ m → alone.Fits a c (alarms-reset a m)
+  leaves-alone m e =
       by-test (eqb m noAlarm) (λ z. reset-leaves (weightOf 16) m (omega arith) refl (user-alarm-resets ∙ sym (eqb-true m noAlarm z)))
       (λ z. reset-leaves m m (omega (arith, lasting-limit m, e)) (ap (λ (b : Bool). pick b (text "000000") (text "001000")) z) e)
+
+  reset-quiet : (m : ℕ) → NoneAsked (statement.asks a) (alarms-reset a m)
+  unfolding textIn frameOf codeIn digits
+  reset-quiet m =
+      quiet-more (statement.asks a) (asks a (text "EQ") (text "001000")) _ (not-asked a EQ (asks a (text "EQ") (text "001000")) refl refl)
+      (quiet-more (statement.asks a) (asks a (text "AR") (text "OK")) _ (not-asked a AR (asks a (text "AR") (text "OK")) refl refl)
+      (quiet-more (statement.asks a) (asks a (text "EQ") (statusWith m)) _ (not-asked a EQ (asks a (text "EQ") (statusWith m)) refl refl)
+      (quiet-more (statement.asks a) (asks a (text "EA") (alarmCharacters m)) _ (not-asked a EA (asks a (text "EA") (alarmCharacters m)) refl refl) (quiet-none (statement.asks a)))))
+
+  pub reset-leaves-any : (m : ℕ) → lasting m ≡ m → Fits a c (alarms-reset a m)
+  reset-leaves-any m e = fits-beside a c (alarms-reset a m) (reset-quiet m) (leaves-alone m e)
 
   -- ---- an alarm that a further AR took off is refuted where EQ does not show it, and not before
 
   -- the last alarm may have been on
-  lost-before : Fits a c (take 3 (alarm-lost a))
+  lost-before : alone.Fits a c (take 3 (alarm-lost a))
   lost-before =
       let n : ℕ = weightOf 19 in
       let h : n ≤ allAlarms = omega arith in
@@ -239,10 +284,15 @@ module _ (a c : ℕ) (i : within (fieldRange address) a ≡ true) (j : within (f
             (then r r a (text "AR") (text "OK") [] stays tt)),
       )
 
+  lost-long : 4 ≤ length (beforeAsked (statement.asks a) (alarm-lost a))
+  unfolding textIn frameOf codeIn digits
+  lost-long =
+      omega (arith, ap length (behind-quiet a (text "001000") (frameOf Minicomputer (digits 2 a ++ text "OK") ∷ []) (asks a (text "EQ") (text "000000")) (not-asked a EQ (asks a (text "EQ") (text "000000")) refl refl)))
+
   pub lost-alarm-answer : Only a c (alarm-lost a) (refuted 4 4)
   lost-alarm-answer =
       only a c (alarm-lost a) (refuted 4 4)
-      (refl, omega arith, omega arith, lost-before, lasting-stays a c (text "001000") (text "000000") (frameOf Minicomputer (digits 2 a ++ text "OK") ∷ []) refl refl)
+      (refl, omega arith, omega (arith, lost-long), lost-before, stays-alone a c (text "001000") (text "000000") (frameOf Minicomputer (digits 2 a ++ text "OK") ∷ []) refl refl)
 
 -- ---- what an answer to SA tells
 module _ (r : Record) where

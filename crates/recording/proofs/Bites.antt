@@ -17,20 +17,24 @@ use Rattle.state.specs.Valid.{allIn, valid}
 use Rattle.frame.specs.declared.Kind.the-variants.{Minicomputer}
 use Rattle.frame.specs.Frame.{namesUnit, addressIn, xorFrom, frameOf, textIn, withinLimits, marksRight, checkRight}
 use Rattle.base.proofs.Lists.{over-take}
-use Rattle.text.specs.Word.{digits, valueFrom}
+use Rattle.text.specs.Word.{digits, valueFrom, equal}
 use Rattle.command.specs.Status.{weightIn, statusCharacters}
-use Rattle.command.specs.Commands.{codeIn, digitsBetween, formed, applied, rowOf}
+use Rattle.command.specs.Commands.{codeIn, digitsBetween, formed, applied, rowOf, batchAsked}
 use Rattle.command.specs.Answer.{Verdict, NO, argumentsIn, firstOf, verdict, replyFor, replyText, recordAfter}
 use Rattle.command.specs.Answer as answer
 use Rattle.command.specs.Bench.{bench}
 use Rattle.controller.specs.Call.{Outcome, callOf}
 use Rattle.controller.specs.Worked.{check, framed}
+use Rattle.banked.specs.Banked.{asksHeard}
 use Rattle.controller.proofs.ReadBack.{AnswersAt, status-read}
 use Rattle.controller.proofs.Theorems.{Answered, is-reported, accepted-by-none, recipe-after-recipe}
 use Rattle.recording.specs.Form.{Exchange, Recording, J, exchangesIn, recordingOf}
-use Rattle.recording.specs.Replay.{Answer, fits, refuted, AllAgree, Right}
-use Rattle.recording.specs.Statement.{AgreesIn, Agrees, next, Start, Fits, Judgement, refused, judged, RightOf, Demand3}
-use Rattle.recording.proofs.Consequences.{prefix, one-answer, one-judgement, buffer-free}
+use Rattle.recording.specs.Replay.{Answer, fits, refuted, notJudged, AllAgree, beforeAsked, Right}
+use Rattle.recording.specs.Alone.{AgreesIn, Agrees, next, Start, Fits}
+use Rattle.recording.specs.Statement as statement
+use Rattle.recording.specs.Statement.{Judgement, refused, judged, RightOf, Demand3}
+use Rattle.recording.proofs.Unseen.{right-beside}
+use Rattle.recording.proofs.Consequences.{prefix, one-answer, one-judgement, one-buffer-alone}
 
 infix 70 _gets_
 abbrev pub _gets_ : List ℕ → List ℕ → Exchange
@@ -59,7 +63,7 @@ AllIn r es = AllAgree next (λ s e. AgreesIn s e (replicate 64 0)) r es
 -- what agrees with one buffer agrees with any
 any-buffer : (r : Record) (es : List Exchange) → AllIn r es → AllAgree next Agrees r es
 any-buffer r [] h = tt
-any-buffer r (e ∷ es) h = (λ o l. buffer-free r e (replicate 64 0) o refl l (h .0), any-buffer (next r e) es (h .1))
+any-buffer r (e ∷ es) h = (one-buffer-alone r e (replicate 64 0) refl (h .0), any-buffer (next r e) es (h .1))
 
 fit-by : (r : Record) (es : List Exchange) → valid r ≡ true → AllIn r es → Fits (get address r) (get access r) es
 fit-by r es v h = (r, record { valid-record = v; same-address = refl; same-access = refl }, any-buffer r es h)
@@ -185,15 +189,19 @@ lost-refuted c h =
 -- ---- the one right answer
 module _ (a c : ℕ) (es : List Exchange) (x : Answer) where
   abbrev pub Only : Type 0
-  Only = Right (Fits a c) es x × ((y : Answer) → Right (Fits a c) es y → y ≡ x)
+  Only = Right (statement.asks a) (statement.Fits a c) es x × ((y : Answer) → Right (statement.asks a) (statement.Fits a c) es y → y ≡ x)
 
-  pub only : Right (Fits a c) es x → Only
-  only h = (h, λ y i. one-answer next Agrees (Start a c) es y x i h)
+  pub only : Right (statement.asks a) (Fits a c) es x → Only
+  only h =
+      let g = right-beside a c es x h in
+      (g, λ y i. one-answer (statement.next statement.called) (statement.Agrees statement.called) (statement.Start a c) (statement.asks a) es y x i g)
 
 pub kept-answer : Only 1 2 recipe-kept (fits 3)
-kept-answer = only 1 2 recipe-kept (fits 3) (refl, some-fit .0)
+unfolding beforeAsked asksHeard batchAsked check textIn codeIn frameOf withinLimits marksRight checkRight xorFrom allBetween namesUnit addressIn
+kept-answer = only 1 2 recipe-kept (fits 3) (refl, refl, some-fit .0)
 
 pub lost-answer : Only 1 2 recipe-lost (refuted 2 2)
+unfolding beforeAsked asksHeard batchAsked check textIn codeIn frameOf withinLimits marksRight checkRight xorFrom allBetween namesUnit addressIn
 lost-answer = only 1 2 recipe-lost (refuted 2 2) (refl, omega arith, omega arith, some-fit .1, lost-refuted 2)
 
 nothing-fits : Fits 1 2 []
@@ -201,7 +209,36 @@ nothing-fits = prefix next Agrees (Start 1 2) recipe-kept (some-fit .0) 0
 
 -- what comes after the first that does not agree changes nothing
 pub unanswered-answer : Only 1 2 (unanswered ∷ unanswered ∷ []) (refuted 1 2)
+unfolding beforeAsked asksHeard batchAsked check textIn codeIn frameOf withinLimits marksRight checkRight xorFrom allBetween namesUnit addressIn
 unanswered-answer = only 1 2 (unanswered ∷ unanswered ∷ []) (refuted 1 2) (refl, omega arith, omega arith, nothing-fits, silence-refuted 2)
+
+-- ---- 02, L7: a kept batch that is asked for
+
+-- in a good frame, and with a wrong check, which meets silence
+abbrev pub batch-asked : Exchange
+batch-asked = framed "01RT R 001" gets framed "01RT R 00000500 001"
+
+abbrev pub batch-unheard : Exchange
+batch-unheard = (0x02 ∷ (text "01RT R 001" ++ (0x03 ∷ 0x00 ∷ 0x7f ∷ []))) gets []
+
+-- "not judged at I", whatever was replied and whatever comes behind it
+pub asked-answer : Only 1 2 (batch-asked ∷ unanswered ∷ []) (notJudged 1 2)
+unfolding beforeAsked asksHeard batchAsked check textIn codeIn frameOf withinLimits marksRight checkRight xorFrom allBetween namesUnit addressIn equal digitsBetween
+asked-answer = only 1 2 (batch-asked ∷ unanswered ∷ []) (notJudged 1 2) (refl, refl, omega arith, nothing-fits)
+
+-- "unless the exchanges before it, taken alone, are refuted .. (N counting all)"
+pub asked-behind-answer : Only 1 2 (unanswered ∷ batch-asked ∷ []) (refuted 1 2)
+unfolding beforeAsked asksHeard batchAsked check textIn codeIn frameOf withinLimits marksRight checkRight xorFrom allBetween namesUnit addressIn equal digitsBetween
+asked-behind-answer = only 1 2 (unanswered ∷ batch-asked ∷ []) (refuted 1 2) (refl, omega arith, omega arith, nothing-fits, silence-refuted 2)
+
+-- one that is silent is judged
+unheard-fits : Fits 1 2 (batch-unheard ∷ [])
+unfolding check bench callOf valid allIn rangeAt placeOf placeIn withinLimits marksRight checkRight xorFrom textIn allBetween
+unheard-fits = fit-by bench (batch-unheard ∷ []) refl ((refl, refl), tt)
+
+pub unheard-answer : Only 1 2 (batch-unheard ∷ []) (fits 1)
+unfolding beforeAsked asksHeard batchAsked check textIn codeIn frameOf withinLimits marksRight checkRight xorFrom allBetween namesUnit addressIn equal digitsBetween
+unheard-answer = only 1 2 (batch-unheard ∷ []) (fits 1) (refl, refl, unheard-fits)
 
 -- of a recording's bytes
 abbrev pub OnlyOf : List ℕ → Judgement → Type 0
@@ -215,16 +252,16 @@ abbrev pub empty-recording : List ℕ
 empty-recording = 0x01 ∷ 0x00 ∷ 0x05 ∷ 0x01 ∷ 0x02 ∷ []
 
 pub empty-judged : OnlyOf empty-recording (judged (fits 0))
-unfolding recordingOf exchangesIn
-empty-judged = only-of empty-recording (judged (fits 0)) (refl, nothing-fits)
+unfolding recordingOf exchangesIn beforeAsked
+empty-judged = only-of empty-recording (judged (fits 0)) (right-beside 1 2 [] (fits 0) (refl, refl, nothing-fits))
 
 -- EQ that met silence, at address 1 and access 2
 abbrev pub silence-recording : List ℕ
 silence-recording = 0x01 ∷ 0x00 ∷ 0x0f ∷ 0x01 ∷ 0x02 ∷ 0x08 ∷ (framed "01EQ" ++ (0x00 ∷ []))
 
 pub silence-judged : OnlyOf silence-recording (judged (refuted 1 1))
-unfolding recordingOf exchangesIn check
-silence-judged = only-of silence-recording (judged (refuted 1 1)) (refl, omega arith, omega arith, nothing-fits, silence-refuted 2)
+unfolding recordingOf exchangesIn check beforeAsked asksHeard batchAsked textIn codeIn frameOf withinLimits marksRight checkRight xorFrom allBetween namesUnit addressIn
+silence-judged = only-of silence-recording (judged (refuted 1 1)) (right-beside 1 2 (unanswered ∷ []) (refuted 1 1) (refl, omega arith, omega arith, nothing-fits, silence-refuted 2))
 
 -- what is not well-formed is refused with its number
 pub refusal-judged : (bs : List ℕ) (n : ℕ) → recordingOf bs ≡ J n → OnlyOf bs (refused n)

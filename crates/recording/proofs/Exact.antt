@@ -12,8 +12,9 @@ use lib.ListN.{length, getD, take}
 use lib.Seq.{take-length}
 use borrow.Author.Tests.{ltb-true, ltb-false}
 use Rattle.base.specs.Test.{pick}
-use Rattle.recording.specs.Replay.{fits, refuted, AllAgree, afterAll, Right}
+use Rattle.recording.specs.Replay.{fits, refuted, notJudged, AllAgree, afterAll, beforeAsked, Right}
 use Rattle.recording.specs.Progress.{passed, learnt, answerFrom, answerOf}
+use Rattle.recording.proofs.Asked.{before-all, before-first}
 
 -- ---- those that pass, and the one that does not
 module _ {K E : Type 0} (learn : K → E → K) (alive : K → Bool) where
@@ -155,20 +156,44 @@ module _ {S E K : Type 0} (step : S → E → S) (Agree : S → E → Type 0) (S
               fails = λ l f. let (r, n, a) = f in exact .none (learn k e) (step r e) q (exact .onward k e r v n (a .0));
             }
 
-    right-answer : (k : K) (es : List E) (c : ℕ) → Last k es c → Right (From k) es (answerFrom learn alive c (length es))
-    right-answer k es c l = go (ltb c (length es)) refl
-      where
-        go : (b : Bool) → ltb c (length es) ≡ b → Right (From k) es (pick b (refuted (c + 1) (length es)) (fits (length es)))
-        go true q =
-            let h : c < length es = ltb-true c (length es) q in
-            let e : c + 1 - 1 ≡ c = omega arith in
-            (refl, omega arith, omega arith, subst (λ (n : ℕ). From k (take n es)) (sym e) (l .holds), λ f. l .fails h (subst (λ (n : ℕ). From k (take n es)) (add-one c) f))
-        go false q =
-            let h : length es ≤ c = ltb-false c (length es) q in
-            let e : c ≡ length es = let b = l .bound in omega arith in
-            (refl, subst (From k) (take-length es) (subst (λ (n : ℕ). From k (take n es)) e (l .holds)))
+    -- the exchanges that are asked so, and all behind them, are not judged
+    module _ (asks : E → Bool) where
+      right-answer : (k : K) (es : List E) (c : ℕ) → Last k (beforeAsked asks es) c
+          → Right asks (From k) es (answerFrom learn alive c (length (beforeAsked asks es)) (length es))
+      right-answer k es c l = go (ltb c m) refl (ltb m (length es)) refl
+        where
+          m : ℕ
+          m = length (beforeAsked asks es)
 
-    -- the answer is right of the states that the first knowledge allows
-    pub right : (k : K) (es : List E) → Sound k → alive k ≡ true → Right (From k) es (answerOf learn alive k es)
-    unfolding answerOf
-    right k es v h = right-answer k es (passed learn alive k es) (last k es v h)
+          same : (n : ℕ) → n ≤ m → take n (beforeAsked asks es) ≡ take n es
+          same n h = before-first asks es n h
+
+          everyone : ltb c m ≡ false → From k (beforeAsked asks es)
+          everyone q =
+              let h : m ≤ c = ltb-false c m q in
+              let e : c ≡ m = let b = l .bound in omega arith in
+              subst (From k) (take-length (beforeAsked asks es)) (subst (λ (n : ℕ). From k (take n (beforeAsked asks es))) e (l .holds))
+
+          go : (b : Bool) → ltb c m ≡ b → (d : Bool) → ltb m (length es) ≡ d
+              → Right asks (From k) es (pick b (refuted (c + 1) (length es)) (pick d (notJudged (m + 1) (length es)) (fits (length es))))
+          go true q d w =
+              let h : c < m = ltb-true c m q in
+              let e : c + 1 - 1 ≡ c = omega arith in (
+                refl,
+                omega arith,
+                omega arith,
+                subst (λ (n : ℕ). From k (take n es)) (sym e) (subst (From k) (same c (omega arith)) (l .holds)),
+                λ f. l .fails h (subst (From k) (sym (same (suc c) (omega arith))) (subst (λ (n : ℕ). From k (take n es)) (add-one c) f)),
+              )
+          go false q true w =
+              let h : m < length es = ltb-true m (length es) w in
+              (refl, refl, omega arith, everyone q)
+          go false q false w =
+              let h : length es ≤ m = ltb-false m (length es) w in
+              let none = before-all asks es h in
+              (refl, none, subst (From k) none (everyone q))
+
+      -- the answer is right of the states that the first knowledge allows
+      pub right : (k : K) (es : List E) → Sound k → alive k ≡ true → Right asks (From k) es (answerOf learn alive asks k es)
+      unfolding answerOf
+      right k es v h = right-answer k es (passed learn alive k (beforeAsked asks es)) (last k (beforeAsked asks es) v h)

@@ -13,11 +13,17 @@ use Rattle.frame.specs.declared.Kind.the-variants.{Minicomputer}
 use Rattle.frame.specs.Frame.{frameOf, textIn}
 use Rattle.text.specs.Word.{digits}
 use Rattle.command.specs.Status.{fourth, weightIn, statusCharacters}
-use Rattle.command.specs.Commands.{PC, codeIn}
+use Rattle.command.specs.Commands.{EQ, PC, codeIn}
 use Rattle.controller.specs.Call.{Outcome}
 use Rattle.controller.proofs.Theorems.{call-keeps-valid, address-kept, flag-stays}
 use Rattle.recording.specs.Form.{Exchange}
-use Rattle.recording.specs.Statement.{Agrees, next, Fits}
+use Rattle.recording.specs.Alone.{Agrees, next}
+use Rattle.recording.specs.Alone as alone
+use Rattle.recording.specs.Replay.{NoneAsked}
+use Rattle.recording.specs.Statement as statement
+use Rattle.recording.specs.Statement.{Fits}
+use Rattle.recording.proofs.Asked.{quiet-more, quiet-none}
+use Rattle.recording.proofs.Unseen.{not-asked, fits-alone}
 use Rattle.recording.proofs.Bites.{_gets_, asks, shown-at, heard-frame, status-at}
 
 -- EQ's fourth character
@@ -38,11 +44,10 @@ fourth-lit false false w e = (λ h. absurd (omega arith), λ h. absurd (omega ar
 abbrev pub around : ℕ → List ℕ → Exchange → List ℕ → List Exchange
 around a s e t = asks a (text "EQ") s ∷ e ∷ asks a (text "EQ") t ∷ []
 
--- whatever a PC asks for and is replied, no EQ after it shows the flag off
-pub lit-stays : (a c : ℕ) (s t q b : List ℕ) → codeIn (textIn Minicomputer q) ≡ PC → 0x38 ≤ getD s 3 0 → 0 < getD t 3 0 → getD t 3 0 < 0x38
-    → Fits a c (around a s (q gets b) t) → ⊥
+stays-alone : (a c : ℕ) (s t q b : List ℕ) → codeIn (textIn Minicomputer q) ≡ PC → 0x38 ≤ getD s 3 0 → 0 < getD t 3 0 → getD t 3 0 < 0x38
+    → alone.Fits a c (around a s (q gets b) t) → ⊥
 unfolding weightIn
-lit-stays a c s t q b code lit shown unlit h =
+stays-alone a c s t q b code lit shown unlit h =
     let (r, start, g) = h in
     let o : List ℕ = replicate 64 0 in
     let before : 0x30 + weightIn r fourth ≡ getD s 3 0 = fourth-shown r a s (start .valid-record) (start .same-address) (omega arith) (g .0) in
@@ -54,3 +59,17 @@ lit-stays a c s t q b code lit shown unlit h =
     let on-after : get changed after ≡ on = flag-stays Minicomputer r q o code (fourth-lit (r .changed) (r .powerfail) (weightIn r fourth) refl .0 (omega arith)) in
     let l : 8 ≤ weightIn after fourth = fourth-lit (after .changed) (after .powerfail) (weightIn after fourth) refl .1 on-after in
     omega arith
+
+-- none of them asks for a kept batch
+around-quiet : (a : ℕ) (s t q b : List ℕ) → codeIn (textIn Minicomputer q) ≡ PC → NoneAsked (statement.asks a) (around a s (q gets b) t)
+unfolding textIn frameOf codeIn digits
+around-quiet a s t q b code =
+    quiet-more (statement.asks a) _ _ (not-asked a EQ (asks a (text "EQ") s) refl refl)
+    (quiet-more (statement.asks a) _ _ (not-asked a PC (q gets b) code refl)
+    (quiet-more (statement.asks a) _ _ (not-asked a EQ (asks a (text "EQ") t) refl refl) (quiet-none (statement.asks a))))
+
+-- whatever a PC asks for and is replied, no EQ after it shows the flag off
+pub lit-stays : (a c : ℕ) (s t q b : List ℕ) → codeIn (textIn Minicomputer q) ≡ PC → 0x38 ≤ getD s 3 0 → 0 < getD t 3 0 → getD t 3 0 < 0x38
+    → Fits a c (around a s (q gets b) t) → ⊥
+lit-stays a c s t q b code lit shown unlit h =
+    stays-alone a c s t q b code lit shown unlit (fits-alone a c (around a s (q gets b) t) (around-quiet a s t q b code) h)

@@ -1,3 +1,5 @@
+pub mod Asked
+pub mod Unseen
 pub mod Laws
 pub mod Consequences
 pub mod Exact

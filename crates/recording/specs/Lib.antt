@@ -3,3 +3,4 @@ pub mod Replay
 pub mod Statement
 pub mod Progress
 pub mod Known
+pub mod Alone

@@ -5,7 +5,7 @@ use mathlib.Core.List.{List, [], _∷_}
 use lib.Dec.{ltb}
 use lib.ListN.{length}
 use Rattle.base.specs.Test.{pick}
-use Rattle.recording.specs.Replay.{Answer, fits, refuted}
+use Rattle.recording.specs.Replay.{Answer, fits, refuted, notJudged, beforeAsked}
 
 -- what is known after all of the exchanges
 module _ {K E : Type 0} (learn : K → E → K) where
@@ -19,8 +19,10 @@ module _ {K E : Type 0} (learn : K → E → K) (alive : K → Bool) where
   passed k [] = 0
   passed k (e ∷ es) = pick (alive (learn k e)) (suc (passed (learn k e) es)) 0
 
-  abbrev pub answerFrom : ℕ → ℕ → Answer
-  answerFrom c n = pick (ltb c n) (refuted (c + 1) n) (fits n)
+  -- c of the m that are judged pass, of n in all
+  abbrev pub answerFrom : ℕ → ℕ → ℕ → Answer
+  answerFrom c m n = pick (ltb c m) (refuted (c + 1) n) (pick (ltb m n) (notJudged (m + 1) n) (fits n))
 
-  unfoldable pub answerOf : K → List E → Answer
-  answerOf k es = answerFrom (passed k es) (length es)
+  -- those are judged that come before the first with a request that is not
+  unfoldable pub answerOf : (E → Bool) → K → List E → Answer
+  answerOf asks k es = answerFrom (passed k (beforeAsked asks es)) (length (beforeAsked asks es)) (length es)

@@ -12,7 +12,7 @@ use Rattle.base.specs.Text.{text}
 use Rattle.base.specs.Test.{pick, member, allBetween}
 use Rattle.base.specs.Lists.{over}
 use Rattle.base.proofs.Tests.{and-left, and-right}
-use Rattle.base.proofs.Lists.{over-at-start}
+use Rattle.base.proofs.Lists.{over-at-start, over-at-length}
 use Rattle.state.specs.declared.Record.{Record}
 use Rattle.state.specs.Parameter.{codeAt}
 use Rattle.state.specs.Alarm.{noAlarm, characterValues}
@@ -32,7 +32,9 @@ use Rattle.text.specs.Written.{writtenAt}
 use Rattle.text.proofs.Words.{digits-length}
 use Rattle.text.proofs.Printable.{Text, text-wider, text-joined, text-word, one-text, no-text, space-text, text-digits, text-labelled}
 use Rattle.text.proofs.Writing.{Laid, laid-none, laid-same, joined, room-written, digits-high}
-use Rattle.reply.specs.Reply.{labelled, labelledTwo, textFor, writtenOf}
+use Rattle.reply.specs.declared.Kept.{Kept}
+use Rattle.reply.specs.declared.Kept.the-variants as kept
+use Rattle.reply.specs.Reply.{labelled, labelledTwo, textFor, laidText, writtenOf, keptWords, keptText}
 
 -- ---- a word and a number
 pub labelled-length : (w : List ℕ) (k n : ℕ) → length (labelled w k n) ≡ length w + k
@@ -97,9 +99,13 @@ pub parameter-laid : (w : List ℕ) (c i k v m at n : ℕ) (o o₁ : List ℕ) �
 parameter-laid w c i k v m at n o o₁ e f = laid-same at n _ _ o o₁ (simp (e, f, append-assoc))
 
 -- ---- the whole text
+pub none-laid : (t o : List ℕ) → length o < 60 → (0, o) ≡ laidText t o
+unfolding laidText
+none-laid t o h = simp (lt-leb _ _ h)
+
 pub written-none : (a : Answered) (r : Record) (o : List ℕ) → length o < 60 → (0, o) ≡ writtenOf a r o
 unfolding writtenOf
-written-none a r o h = simp (lt-leb _ _ h)
+written-none a r o h = none-laid (textFor a r) o h
 
 -- the address digits
 address-laid : (a b : ℕ) (o o₁ : List ℕ) → 60 ≤ length o → (b, o₁) ≡ writtenAt 0 (digits 2 a) o → Laid 0 (digits 2 a) o b o₁
@@ -108,16 +114,43 @@ address-laid a b o o₁ h e = room-written 0 b (digits 2 a) o o₁ (omega (arith
 pub address-end : (a b : ℕ) (o o₁ : List ℕ) → 60 ≤ length o → (b, o₁) ≡ writtenAt 0 (digits 2 a) o → b ≡ 2
 address-end a b o o₁ h e = omega (arith, digits-length 2 a, address-laid a b o o₁ h e .0)
 
+-- the words behind them
+words-laid : (a : ℕ) (w : List ℕ) (b n : ℕ) (o o₁ o₂ : List ℕ) → 60 ≤ length o → (b, o₁) ≡ writtenAt 0 (digits 2 a) o → Laid b w o₁ n o₂
+    → (n, o₂) ≡ laidText (digits 2 a ++ w) o
+unfolding laidText
+words-laid a w b n o o₁ o₂ h f l =
+    let t : List ℕ = digits 2 a ++ w in
+    let all : Laid 0 t o n o₂ = joined 0 b n (digits 2 a) w o o₁ o₂ (address-laid a b o o₁ h f) l in
+    let m : n ≡ length t = omega (arith, all .0) in
+    let g : o₂ ≡ over t o = all .1 ∙ over-at-start t o in
+    simp (le-leb _ _ h, m, g)
+
 pub written : (d e : Answer) (r : Record) (b n : ℕ) (o o₁ o₂ : List ℕ) → 60 ≤ length o → d ≡ e
     → (b, o₁) ≡ writtenAt 0 (digits 2 (r .address)) o → Laid b (answerText (answerAs e) r) o₁ n o₂ → (n, o₂) ≡ writtenOf (answerAs d) r o
 unfolding writtenOf textFor
 written d e r b n o o₁ o₂ h z f a =
-    let x : List ℕ = digits 2 (r .address) in
-    let t : List ℕ = x ++ answerText (answerAs e) r in
-    let w : Laid 0 t o n o₂ = joined 0 b n x (answerText (answerAs e) r) o o₁ o₂ (address-laid (r .address) b o o₁ h f) a in
-    let l : n ≡ length t = omega (arith, w .0) in
-    let g : o₂ ≡ over t o = w .1 ∙ over-at-start t o in
-    simp (z, le-leb _ _ h, l, g)
+    words-laid (r .address) (answerText (answerAs e) r) b n o o₁ o₂ h f a ∙ ap (λ (y : Answer). laidText (digits 2 (r .address) ++ answerText (answerAs y) r) o) (sym z)
+
+-- of a kept batch
+module _ (x : Kept) (a b n : ℕ) (o o₁ o₂ : List ℕ) (h : 60 ≤ length o) (f : (b, o₁) ≡ writtenAt 0 (digits 2 a) o) where
+  kept-laid : (y : Kept) → x ≡ y → Laid b (keptWords y) o₁ n o₂ → (n, o₂) ≡ laidText (keptText a x) o
+  unfolding keptText
+  kept-laid y z l = words-laid a (keptWords y) b n o o₁ o₂ h f l ∙ ap (λ (w : Kept). laidText (digits 2 a ++ keptWords w) o) (sym z)
+
+  same-room : length o₁ ≡ length o
+  same-room = ap length (address-laid a b o o₁ h f .1) ∙ over-at-length 0 (digits 2 a) o (omega (arith, digits-high 2 a))
+
+  pub kept-none : x ≡ kept.Nothing → (n, o₂) ≡ writtenAt b (0x4e ∷ 0x4f ∷ 0x30 ∷ 0x33 ∷ []) o₁ → (n, o₂) ≡ laidText (keptText a x) o
+  unfolding digits
+  kept-none z w = kept-laid kept.Nothing z (room-written b n (0x4e ∷ 0x4f ∷ 0x30 ∷ 0x33 ∷ []) o₁ o₂ (omega (arith, address-end a b o o₁ h f, same-room)) w)
+
+  pub kept-volume : (v m : ℕ) → x ≡ kept.Volume v m → Laid b (labelledTwo (text "RT R ") 8 v 3 m) o₁ n o₂ → (n, o₂) ≡ laidText (keptText a x) o
+  kept-volume v m z l = kept-laid (kept.Volume v m) z l
+
+  pub volume-room : b + length (text "RT R ") + 8 + 1 + 3 ≤ length o₁
+  volume-room = omega (arith, address-end a b o o₁ h f, same-room)
+
+pub ruleset batch-writing = (none-laid, kept-none, kept-volume)
 
 -- ---- the texts that are shown
 
@@ -246,3 +279,12 @@ served-answers (asked c x) r = by-verdict (guarded (guardsOf (get access r) (ask
 pub text-legal : (a : Answered) (r : Record) → Answers a → Text 4 (2 + longest) (textFor a r)
 unfolding textFor
 text-legal a r h = text-joined 2 2 2 longest (digits 2 (r .address)) (answerText a r) (text-digits 2 (r .address)) (h r)
+
+pub kept-legal : (a : ℕ) (x : Kept) → Text 4 (2 + longest) (keptText a x)
+unfolding keptText allBetween
+kept-legal a kept.Nothing =
+    text-wider _ _ _ _ _ (omega arith) (omega arith) (text-joined 2 2 4 4 (digits 2 a) _ (text-digits 2 a) (text-labelled (text "NO") 2 3 refl))
+kept-legal a (kept.Volume v n) =
+    text-wider _ _ _ _ _ (omega arith) (omega arith)
+    (text-joined 2 2 17 17 (digits 2 a) _ (text-digits 2 a)
+    (text-joined 13 13 4 4 (text "RT R " ++ digits 8 v) _ (text-labelled (text "RT R ") 8 v refl) (text-labelled (space ∷ []) 3 n refl)))

@@ -21,7 +21,7 @@ ghost use Rattle.state.specs.Field.{flagNumber};
 ghost use Rattle.command.specs.Status.{statusCharacters, alarmCharacters, statusCodes, codesOn};
 ghost use Rattle.command.specs.Commands.{printed};
 ghost use Rattle.command.specs.Request.{readingAs, replyOf, answerAs};
-ghost use Rattle.reply.specs.Reply.{labelled, labelledTwo, writtenOf};
+ghost use Rattle.reply.specs.Reply.{labelled, labelledTwo, laidText, writtenOf, keptText};
 
 // ---- writers
 
@@ -184,5 +184,28 @@ pub fn write(r: Record, answer: Answer, out: &mut [u8]) -> usize
         Answer::No(refusal) => put_labelled(b"NO", command::number_of(refusal), 2, behind, out),
         Answer::Shows(reading) => put_shown(r, reading, behind, out),
         Answer::Ok => put_word(b"OK", behind, out),
+    }
+}
+
+// What is replied to the request for a kept batch.
+pub enum Kept {
+    // NO03
+    Nothing,
+    // Its raw volume, and its number.
+    Volume(u32, u32),
+}
+
+// Writes the text of that to the start of out, from the unit with this address, and gives its length; nothing, where out has no room for a
+// text. The record is not looked at.
+pub fn write_kept(address: u8, kept: Kept, out: &mut [u8]) -> usize
+    ensures { λ n. ⌜ (n, now (out .exit)) ≡ laidText (keptText address kept) (now (out .entry)) ⌝ }
+{
+    if out.len() < 60 {
+        return 0;
+    }
+    let behind = put_digits(address as u64, 2, 0, out);
+    match kept {
+        Kept::Nothing => put_word(b"NO03", behind, out),
+        Kept::Volume(raw, n) => put_two(b"RT R ", raw, 8, n, 3, behind, out),
     }
 }

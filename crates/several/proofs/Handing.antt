@@ -1,40 +1,31 @@
--- What is due to a frame, and what that tells of the call: one law for each return of `due_to`, and one for each step that follows. Assumes
--- nothing.
+-- What is due to a frame, and what that tells of any call: one law for each return of `due_to`, and one for each step that follows.
+-- Assumes nothing.
 use Prim.Native.Nat.{ℕ, zero, suc, _-_, _≤_, _<_}
 use mathlib.Core.Bool.{Bool, true, false}
 use mathlib.Core.Path.{_≡_, refl, sym, ap, subst, _∙_}
 use mathlib.Core.List.{List, [], _∷_}
 use native.Mathlib.Omega.{arith}
 use lib.Dec.{eqb, leb}
-use lib.ListN.{length, take, drop, replicate, getD}
+use lib.ListN.{length, take, drop, getD}
 use lib.Seq.{take-nil, take-take}
 use borrow.Author.Tests.{le-leb, lt-leb, leb-true, leb-false, eq-eqb, ne-eqb, eqb-true, eqb-false}
 use Rattle.base.specs.Test.{unless}
-use Rattle.base.specs.Lists.{over}
 use Rattle.base.proofs.Tests.{never}
-use Rattle.state.specs.declared.Record.{Record}
-use Rattle.state.specs.Valid.{valid}
 use Rattle.frame.specs.declared.Kind.the-variants.{Minicomputer}
 use Rattle.frame.specs.declared.Silence.{Silence}
 use Rattle.frame.specs.declared.Addressed.{Addressed}
 use Rattle.frame.specs.declared.Addressed.the-variants as addressed
 use Rattle.frame.specs.Frame.{allText, namesUnit, addressIn, textIn, withinLimits, marksRight, checkRight}
-use Rattle.frame.specs.Numbers.{Answer, H, S, accepted, unit, silenceNumber, addressedAs}
+use Rattle.frame.specs.Numbers.{Answer, H, S, accepted, unit, addressedAs}
 use Rattle.frame.specs.Answer.{locateOf, addressOf}
-use Rattle.frame.proofs.Laws.{silence-low, Named, named, named-addressed}
-use Rattle.command.specs.Request.{effectAs}
-use Rattle.controller.specs.declared.Replied.{Replied}
-use Rattle.controller.specs.declared.Answer as controller
-use Rattle.controller.specs.declared.Answer.the-variants.{Silent, Reply}
-use Rattle.controller.specs.Call.{Outcome, silent, replied, replyOf, callOf, answerSilence, outcomeAs, replyIn}
-use Rattle.controller.proofs.Steps.{byReader, call-by-reader}
-use Rattle.controller.proofs.Exactly.{tests, heard-exactly, silence-exactly}
-use Rattle.controller.proofs.Buffers.{Alike, calls-with-room, buffer-left}
+use Rattle.frame.proofs.Laws.{Named, named}
+use Rattle.controller.specs.Call.{OutcomeOf}
 use Rattle.several.specs.declared.Due.{Due}
 use Rattle.several.specs.declared.Due.the-variants.{Refused, OtherUnit, NoRoom, Answered}
-use Rattle.several.specs.Several.{called, full, answer, handed}
+use Rattle.several.specs.Several.{full, answer, handed}
 use Rattle.several.specs.Several as several
 use Rattle.several.specs.Answers.{dueBy, dueOf}
+use Rattle.several.proofs.Serving.{Serving, tests, silence-exactly, heard-exactly, unit-silence}
 
 -- ---- the returns of `due_to`
 module _ (d room : ℕ) (q : List ℕ) (a : Addressed) (e : addressedAs a ≡ addressOf Minicomputer q) where
@@ -116,58 +107,49 @@ module _ (d room : ℕ) (q : List ℕ) where
 
 -- ---- the call
 
--- something is due to a frame that passes the tests of S1 to S7
-tested-due : (r : Record) (q : List ℕ) (room : ℕ) → ((j : ℕ) → j < 7 → getD (tests Minicomputer r q (replicate 64 0)) j true ≡ true)
-    → dueOf (r .address) room q ≡ Refused → ⊥
+-- something is due to a frame that passes the tests of S3 to S7
+tested-due : (d room : ℕ) (q : List ℕ) → withinLimits Minicomputer (length q) ≡ true → marksRight Minicomputer q ≡ true → checkRight Minicomputer q ≡ true
+    → allText (textIn Minicomputer q) ≡ true → namesUnit (textIn Minicomputer q) ≡ true → dueOf d room q ≡ Refused → ⊥
 unfolding dueOf addressOf locateOf
-tested-due r q room passed e =
-    let t : List ℕ = textIn Minicomputer q in
-    let limits : withinLimits Minicomputer (length q) ≡ true = passed 2 (omega arith) in
-    let marks : marksRight Minicomputer q ≡ true = passed 3 (omega arith) in
-    let sum : checkRight Minicomputer q ≡ true = passed 4 (omega arith) in
-    let bytes : allText t ≡ true = passed 5 (omega arith) in
-    let names : namesUnit t ≡ true = passed 6 (omega arith) in
-    some (eqb (addressIn t) (r .address)) (leb 64 room) (length t) (sym (simp (limits, marks, sum, bytes, names)) ∙ e)
+tested-due d room q limits marks sum bytes names e =
+    some (eqb (addressIn (textIn Minicomputer q)) d) (leb 64 room) (length (textIn Minicomputer q)) (sym (simp (limits, marks, sum, bytes, names)) ∙ e)
   where
     some : (b c : Bool) (n : ℕ) → unless b OtherUnit (unless c NoRoom (Answered n)) ≡ Refused → ⊥
     some true true n f = never (cc)
     some true false n f = never (cc)
     some false c n f = never (cc)
 
-module _ (r : Record) (q : List ℕ) (v : valid r ≡ true) where
-  -- S8, or a reply
-  unit-called : (a n : ℕ) → Named Minicomputer q a n → (o : List ℕ) → 64 ≤ length o
-      → callOf Minicomputer r q o ≡ unless (eqb a (r .address)) (silent 8 r o) (replied Minicomputer (textIn Minicomputer q) r o)
-  unit-called a n f o h = call-by-reader Minicomputer r q o v h ∙ ap (byReader Minicomputer r q o) (named-addressed Minicomputer q a n f)
+module _ {S : Type 0} {called : S → List ℕ → OutcomeOf S} {good : S → Bool} {address : S → ℕ} (laws : Serving called good address) (r : S) (q : List ℕ) (v : good r ≡ true) where
+  -- its silence by what is due
+  pub refused-silence : (room : ℕ) → dueOf (address r) room q ≡ Refused → (called r q .silence ≡ 0 → ⊥) × (called r q .silence ≡ 8 → ⊥)
+  refused-silence room e = (λ z. tested (λ j l. heard-exactly laws r q .0 z j), λ z. tested (silence-exactly laws r q 7 .0 z .before))
+    where
+      tested : ((j : ℕ) → j < 7 → getD (tests laws r q) j true ≡ true) → ⊥
+      tested f = tested-due (address r) room q (f 2 (omega arith)) (f 3 (omega arith)) (f 4 (omega arith)) (f 5 (omega arith)) (f 6 (omega arith)) e
 
-  this-called : (n : ℕ) → Named Minicomputer q (r .address) n → (o : List ℕ) → 64 ≤ length o
-      → callOf Minicomputer r q o ≡ replied Minicomputer (textIn Minicomputer q) r o
-  this-called n f o h = unit-called (r .address) n f o h ∙ simp (eq-eqb (r .address) (r .address) refl)
+  pub other-silence : (room : ℕ) → dueOf (address r) room q ≡ OtherUnit → called r q .silence ≡ 8
+  other-silence room e = let t = for-other (address r) room q e in unit-silence laws r q v (t .0) (t .1) (t .2) ∙ simp (ne-eqb (t .0) (address r) (t .3))
 
-  answer-due : (n : ℕ) → Named Minicomputer q (r .address) n → called r q .silence ≡ 0
-  answer-due n f = ap (λ (c : Outcome). c .silence) (this-called n f (replicate 64 0) (omega arith))
+  pub answer-due : (n : ℕ) → Named Minicomputer q (address r) n → called r q .silence ≡ 0
+  answer-due n f = unit-silence laws r q v (address r) n f ∙ simp (eq-eqb (address r) (address r) refl)
 
   module _ (n room : ℕ) where
-    pub step-refused : dueOf (r .address) room q ≡ Refused → handed n room (called r q) ≡ several.silent n 0
+    pub step-refused : dueOf (address r) room q ≡ Refused → handed n room (called r q) ≡ several.silent n 0
     step-refused e =
-        let x : called r q .silence ≡ 0 → ⊥ = λ z. tested-due r q room (λ j l. heard-exactly Minicomputer r q (replicate 64 0) .0 z j) e in
-        let y : called r q .silence ≡ 8 → ⊥ = λ z. tested-due r q room (silence-exactly Minicomputer r q (replicate 64 0) 7 .0 z .before) e in
-        simp (ne-eqb (called r q .silence) 0 x, ne-eqb (called r q .silence) 8 y)
+        let x = refused-silence room e in
+        simp (ne-eqb (called r q .silence) 0 (x .0), ne-eqb (called r q .silence) 8 (x .1))
 
-    pub step-other : dueOf (r .address) room q ≡ OtherUnit → handed n room (called r q) ≡ several.silent n (n - 1)
-    step-other e =
-        let t = for-other (r .address) room q e in
-        let c : called r q ≡ silent 8 r (replicate 64 0) = unit-called (t .0) (t .1) (t .2) (replicate 64 0) (omega arith) ∙ simp (ne-eqb (t .0) (r .address) (t .3)) in
-        ap (handed n room) c
+    pub step-other : dueOf (address r) room q ≡ OtherUnit → handed n room (called r q) ≡ several.silent n (n - 1)
+    step-other e = simp (other-silence room e)
 
-    pub step-full : dueOf (r .address) room q ≡ NoRoom → handed n room (called r q) ≡ full n
+    pub step-full : dueOf (address r) room q ≡ NoRoom → handed n room (called r q) ≡ full n
     step-full e =
-        let t = for-full (r .address) room q e in
+        let t = for-full (address r) room q e in
         simp (answer-due (t .0) (t .1), lt-leb 64 room (t .2))
 
-    pub step-answer : (m : ℕ) → dueOf (r .address) room q ≡ Answered m → handed n room (called r q) ≡ answer n (called r q)
+    pub step-answer : (m : ℕ) → dueOf (address r) room q ≡ Answered m → handed n room (called r q) ≡ answer n (called r q)
     step-answer m e =
-        let t = for-answered (r .address) room q m e in
+        let t = for-answered (address r) room q m e in
         simp (answer-due m (t .0), le-leb 64 room (t .1))
 
 -- ---- the text within a stretch of the bytes
@@ -175,35 +157,3 @@ pub behind-first : (m k : ℕ) (l : List ℕ) → m < k → take m (drop 1 (take
 behind-first m k [] h = ap (λ (x : List ℕ). take m (drop 1 x)) (take-nil k)
 behind-first m (suc k) (x ∷ xs) h = take-take m k xs (omega arith)
 behind-first m zero (x ∷ xs) h = absurd (omega arith)
-
--- ---- the reply into the rest of the buffer is the one that the frame gets in a buffer of its own
-module _ (r : Record) (q t o : List ℕ) (m : ℕ) (v : valid r ≡ true) (f : Named Minicomputer q (r .address) m) (text : t ≡ textIn Minicomputer q) (l : 64 ≤ length o)
-    (c : Replied) (b : List ℕ) (w : outcomeAs (c .answer) (effectAs (c .effect) r) b ≡ replyOf Minicomputer r t o) where
-  called-so : outcomeAs (c .answer) (effectAs (c .effect) r) b ≡ callOf Minicomputer r q o
-  unfolding replyOf
-  called-so =
-      let made : replyOf Minicomputer r t o ≡ replied Minicomputer t r o = simp (le-leb 64 (length o) l) in
-      w ∙ (made ∙ (ap (λ (x : List ℕ). replied Minicomputer x r o) text ∙ sym (this-called r q v m f o l)))
-
-  alike : Alike (callOf Minicomputer r q o) (called r q)
-  alike = calls-with-room Minicomputer r q o (replicate 64 0) l (omega arith)
-
-  pub reply-never : (s : Silence) → c .answer ≡ Silent s → ⊥
-  reply-never s y =
-      let i : silenceNumber s ≡ 0 = sym (ap answerSilence y) ∙ (ap (λ (x : Outcome). x .silence) called-so ∙ (alike .same-silence ∙ answer-due r q v m f)) in
-      omega (arith, silence-low s)
-
-  -- its record, its length and its bytes
-  pub record Laid (n : ℕ) : Type 0 where
-    pub next-record : effectAs (c .effect) r ≡ called r q .after
-    pub size : called r q .reported ≡ n
-    pub left : b ≡ over (replyIn (called r q)) o
-
-  pub reply-laid : (n : ℕ) → c .answer ≡ Reply n → Laid n
-  reply-laid n y =
-      let made : outcomeAs (Reply n) (effectAs (c .effect) r) b ≡ callOf Minicomputer r q o = ap (λ (z : controller.Answer). outcomeAs z (effectAs (c .effect) r) b) (sym y) ∙ called-so in
-      record {
-        next-record = ap (λ (z : Outcome). z .after) made ∙ alike .same-record;
-        size = sym (ap (λ (z : Outcome). z .reported) made ∙ alike .same-length);
-        left = ap (λ (z : Outcome). z .buffer) made ∙ (buffer-left Minicomputer r q o ∙ ap (λ (z : List ℕ). over z o) (alike .same-bytes));
-      }

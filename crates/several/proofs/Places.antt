@@ -9,7 +9,7 @@ use lib.Dec.{eqb, leb}
 use lib.ListN.{length, drop, getD, length-append, length-drop, drop-of-length-le}
 use lib.Seq.{drop-drop, getD-drop, drop-append-le}
 use borrow.Author.Tests.{le-leb, lt-leb, leb-true, leb-false, eq-eqb, ne-eqb, eqb-true, not-true, not-false}
-use Rattle.base.specs.Test.{pick, unless, between}
+use Rattle.base.specs.Test.{pick, unless}
 use Rattle.base.proofs.Lists.{next}
 use Rattle.base.proofs.Tests.{between-low, below-or-not, never}
 use Rattle.frame.specs.Frame.{stx, etx, isText}

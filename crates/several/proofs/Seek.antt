@@ -1,5 +1,4 @@
--- The walk to the next frame: what holds at each place, one law for each way on and each way out, and what the frame that it finds tells of
--- the definition. Assumes nothing.
+-- The walk to the next frame: what holds at each place, and one law for each way on and each way out. Assumes nothing.
 use Prim.Native.Nat.{ℕ, suc, _+_, _-_, _≤_, _<_}
 use mathlib.Core.Bool.{Bool, not, true, false}
 use mathlib.Core.Path.{_≡_, refl, sym, ap, subst, _∙_}
@@ -11,14 +10,11 @@ use lib.Seq.{drop-drop, getD-drop}
 use borrow.Author.Tests.{eq-eqb, ne-eqb, eqb-true}
 use Rattle.base.specs.Test.{pick, unless}
 use Rattle.base.proofs.Lists.{next}
-use Rattle.state.specs.declared.Record.{Record}
 use Rattle.frame.specs.Frame.{stx, etx, isText}
-use Rattle.several.specs.declared.Found.{Found}
 use Rattle.several.specs.declared.Found.the-variants.{Frame, Stop}
-use Rattle.several.specs.Several.{Place, passed, undecided, whole, searched, placeOf, stepOf, Heard, nothing, taking, _then_, follow, heardFrom}
+use Rattle.several.specs.Several.{Place, passed, undecided, whole, searched, placeOf}
 use Rattle.several.specs.Answers.{startFrom, foundAt, foundFrom}
-use Rattle.several.proofs.Joined.{nothing-then, taking-more, onward}
-use Rattle.several.proofs.Places.{Searching, search-begun, place-open, place-short, place-whole, place-byte, place-long, whole-told}
+use Rattle.several.proofs.Places.{Searching, search-begun, place-open, place-short, place-whole, place-byte, place-long}
 
 -- ---- the walk to the next STX
 pub record Skipping (s : List ℕ) (f p : ℕ) : Type 0 where
@@ -128,107 +124,3 @@ module _ {s : List ℕ} {f q : ℕ} (k₀ : Seeking s f q) (n : ℕ) (e : n ≡ 
       seek-frame z l =
           let j : p + (i + 3 - p) ≡ i + 3 = omega (arith, g .behind) in
           sym (by-place (whole (i + 3 - p)) (place-whole g h z l) ∙ ap (Frame p) j)
-
--- ---- what the walk finds tells of the definition: k bytes are passed, and then it stops
-pub record Ends (l : List ℕ) (p p′ : ℕ) : Type 0 where
-  pub k : ℕ
-  pub place : p′ ≡ p + k
-  pub fits : k ≤ length l
-  pub all : (room : ℕ) (r : Record) → heardFrom 0 room r l ≡ taking k r then heardFrom 0 room r (drop k l)
-  pub stands : (room : ℕ) (r : Record) → heardFrom 0 room r (drop k l) ≡ nothing r
-
--- ... or a frame of n bytes stands there
-pub record Leads (l : List ℕ) (p p′ e : ℕ) : Type 0 where
-  pub k : ℕ
-  pub n : ℕ
-  pub place : p′ ≡ p + k
-  pub ends : e ≡ p + k + n
-  pub least : 4 ≤ n
-  pub fits : k + n ≤ length l
-  pub all : (room : ℕ) (r : Record) → heardFrom 0 room r l ≡ taking k r then heardFrom 0 room r (drop k l)
-  pub stands : placeOf (getD l k 0) (drop (suc k) l) ≡ whole n
-
-abbrev Tells : List ℕ → ℕ → Found → Type 0
-Tells l p (Stop p′) = Ends l p p′
-Tells l p (Frame p′ e) = Leads l p p′ e
-
-none-passed : (l : List ℕ) (room : ℕ) (r : Record) → heardFrom 0 room r l ≡ taking 0 r then heardFrom 0 room r l
-none-passed l room r = sym (nothing-then r (heardFrom 0 room r l))
-
-module _ (x : ℕ) (xs : List ℕ) (p : ℕ) where
-  more-passed : (k : ℕ) → placeOf x xs ≡ passed → ((room : ℕ) (r : Record) → heardFrom 0 room r xs ≡ taking k r then heardFrom 0 room r (drop k xs))
-      → (room : ℕ) (r : Record) → heardFrom 0 room r (x ∷ xs) ≡ taking (suc k) r then heardFrom 0 room r (drop k xs)
-  unfolding heardFrom
-  more-passed k e f room r =
-      ap (λ (y : Place). follow (stepOf y (x ∷ xs) room r) room r (onward xs)) e
-      ∙ (ap (λ (g : Heard). taking 1 r then g) (f room r) ∙ taking-more 1 k (suc k) r r (heardFrom 0 room r (drop k xs)) (omega arith))
-
-  -- a byte that is passed
-  one-more : placeOf x xs ≡ passed → (y : Found) → Tells xs (p + 1) y → Tells (x ∷ xs) p y
-  one-more e (Stop p′) t =
-      record {
-        k = suc (t .k);
-        place = omega (arith, t .place);
-        fits = omega (arith, t .fits);
-        all = more-passed (t .k) e (t .all);
-        stands = t .stands;
-      }
-  one-more e (Frame p′ d) t =
-      record {
-        k = suc (t .k);
-        n = t .n;
-        place = omega (arith, t .place);
-        ends = omega (arith, t .ends);
-        least = t .least;
-        fits = omega (arith, t .fits);
-        all = more-passed (t .k) e (t .all);
-        stands = t .stands;
-      }
-
-  here : (y : Place) → placeOf x xs ≡ y → Tells xs (p + 1) (foundFrom (p + 1) xs) → Tells (x ∷ xs) p (foundAt y p (foundFrom (p + 1) xs))
-  unfolding heardFrom
-  here passed e t = one-more e (foundFrom (p + 1) xs) t
-  here undecided e t =
-      record {
-        k = 0;
-        place = omega arith;
-        fits = omega arith;
-        all = none-passed (x ∷ xs);
-        stands = λ room r. ap (λ (y : Place). follow (stepOf y (x ∷ xs) room r) room r (onward xs)) e;
-      }
-  here (whole n) e t =
-      let g = whole-told x xs n e in
-      record {
-        k = 0;
-        n = n;
-        place = omega arith;
-        ends = omega arith;
-        least = g .least;
-        fits = omega (arith, g .fits);
-        all = none-passed (x ∷ xs);
-        stands = e;
-      }
-
-empty : (room : ℕ) (r : Record) → heardFrom 0 room r [] ≡ nothing r
-unfolding heardFrom
-empty room r = refl
-
-tells : (l : List ℕ) (p : ℕ) → Tells l p (foundFrom p l)
-unfolding foundFrom
-tells [] p =
-    record {
-      k = 0;
-      place = omega arith;
-      fits = omega arith;
-      all = none-passed [];
-      stands = empty;
-    }
-tells (x ∷ xs) p = here x xs p (placeOf x xs) refl (tells xs (p + 1))
-
--- the walk stops at p′
-pub ends : (s : List ℕ) (p p′ : ℕ) (x : Found) → x ≡ foundFrom p (drop p s) → x ≡ Stop p′ → Ends (drop p s) p p′
-ends s p p′ x e y = subst (Tells (drop p s) p) (sym e ∙ y) (tells (drop p s) p)
-
--- a frame stands from p′ to e
-pub leads : (s : List ℕ) (p p′ e : ℕ) (x : Found) → x ≡ foundFrom p (drop p s) → x ≡ Frame p′ e → Leads (drop p s) p p′ e
-leads s p p′ e x f y = subst (Tells (drop p s) p) (sym f ∙ y) (tells (drop p s) p)

@@ -14,10 +14,11 @@ use Rattle.text.specs.Word.{digits, valueFrom, equal}
 use Rattle.command.specs.Status.{weightIn, statusCharacters, codesOn}
 use Rattle.command.specs.Commands.{codeIn, digitsBetween, formed, applied, rowOf}
 use Rattle.command.specs.Answer.{firstOf, verdict, replyText, recordAfter}
+use Rattle.state.specs.declared.Record.{Record}
 use Rattle.command.specs.Bench.{bench}
 use Rattle.controller.specs.Call.{callOf}
 use Rattle.controller.specs.Worked.{check, framed, EQ-frame, status-frame, OK-frame}
-use Rattle.several.specs.Several.{through, searched, Heard, heardFrom}
+use Rattle.several.specs.Several.{through, searched, Heard, heardFrom, calledRecord}
 use Rattle.several.specs.OneByOne.{looksFrom}
 
 -- bytes and reply room; how many bytes are taken and frames answered, and the replies
@@ -73,7 +74,7 @@ table =
     ∷ []
 
 abbrev pub heardOf : Case → ℕ × ℕ × List ℕ
-heardOf e = let h : Heard = heardFrom 0 (e .room) bench (e .received) in (h .taken, h .answered, h .replies)
+heardOf e = let h : Heard Record = heardFrom calledRecord 0 (e .room) bench (e .received) in (h .taken, h .answered, h .replies)
 
 pub worked : map heardOf table ≡ map (λ e. (e .taken, e .answered, e .replies)) table
 unfolding heardFrom searched through check bench callOf valid allIn rangeAt placeOf placeIn withinLimits marksRight checkRight xorFrom textIn allBetween namesUnit addressIn frameOf over replyText recordAfter verdict firstOf codeIn formed digitsBetween valueFrom equal rowOf digits weightIn statusCharacters codesOn codeAt applied put phaseOf
@@ -81,13 +82,13 @@ worked = refl
 
 -- ---- with S3 and S4 it counts where the walk goes on: at p+1 one frame is answered, after the frame of n bytes none
 abbrev pub bothWays : ℕ → List ℕ → ℕ × ℕ
-bothWays n s = (heardFrom 0 64 bench (drop 1 s) .answered, heardFrom (n - 1) 64 bench (drop 1 s) .answered)
+bothWays n s = (heardFrom calledRecord 0 64 bench (drop 1 s) .answered, heardFrom calledRecord (n - 1) 64 bench (drop 1 s) .answered)
 
 pub differ : bothWays 4 no-text ∷ bothWays 8 no-pad ∷ [] ≡ (1, 0) ∷ (1, 0) ∷ []
 unfolding heardFrom searched through bench callOf valid allIn rangeAt placeOf placeIn withinLimits marksRight checkRight xorFrom textIn allBetween namesUnit addressIn frameOf over replyText recordAfter verdict firstOf codeIn formed digitsBetween valueFrom equal rowOf digits weightIn statusCharacters codesOn codeAt applied put phaseOf
 differ = refl
 
 -- ---- a byte that is looked at four times: the fourth of two frames with S3 that share two bytes
-pub four-looks : looksFrom 0 0 bench (0x02 ∷ 0x03 ∷ 0x02 ∷ 0x03 ∷ 0x41 ∷ 0x41 ∷ []) 3 ≡ 4
+pub four-looks : looksFrom calledRecord 0 0 bench (0x02 ∷ 0x03 ∷ 0x02 ∷ 0x03 ∷ 0x41 ∷ 0x41 ∷ []) 3 ≡ 4
 unfolding looksFrom searched through bench callOf valid allIn rangeAt placeOf placeIn withinLimits
 four-looks = refl

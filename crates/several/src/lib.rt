@@ -1,4 +1,5 @@
 // Several minicomputer frames in one lent buffer, answered in order as single calls would be.
+use banked::Banked;
 use command::Effect;
 use frame::Addressed;
 use frame::ETX;
@@ -12,7 +13,8 @@ ghost use mathlib.Core.Path.{_≡_};
 ghost use Prim.Native.Nat.{_≤_};
 ghost use lib.ListN.{length, drop};
 ghost use Rattle.several.specs.Several.{severalOf};
-ghost use Rattle.several.specs.Answers.{startFrom, foundFrom, dueOf, servedAs, severalAs};
+ghost use Rattle.several.specs.Beside.{bankedSeveralOf};
+ghost use Rattle.several.specs.Answers.{startFrom, foundFrom, dueOf, turnFrom, servedAs, severalAs};
 
 // ETX and its two followers.
 const TRAILER: usize = 3;
@@ -36,6 +38,12 @@ pub struct Called {
     pub after: Record,
 }
 
+// The answer, and record and bank afterwards.
+pub struct CalledBanked {
+    pub answer: Answer,
+    pub after: Banked,
+}
+
 // What the bytes from a place on start with, after those that are passed.
 enum Found {
     // Where a frame starts, and where it ends.
@@ -54,6 +62,14 @@ enum Due {
     NoRoom,
     // An answer to a text of this length, which starts at the frame's second byte.
     Answered(usize),
+}
+
+// Where the walk stands next.
+enum Turn {
+    // It stops here: at the end, at an STX that is not decided, or at a frame whose answer has no room.
+    Stop(usize),
+    // An answer is due: where the text of the frame starts, where the text ends, and where the frame ends.
+    Answer(usize, usize, usize),
 }
 
 // The place of the next STX at or after a place, or the end.
@@ -127,17 +143,47 @@ fn due_to(address: u8, request: &[u8], room: usize) -> Due
     }
 }
 
-fn served(taken: usize, answered: usize, written: usize, after: Record) -> Called
-    ensures { λ c. ⌜ c ≡ servedAs taken answered written after ⌝ }
+// The next frame at or after a place to which an answer is due; those that get none are passed. This is all of the walk that does not
+// ask what is held: every entry takes its frames from here.
+fn next_due(address: u8, bytes: &[u8], from: usize, room: usize) -> Turn
+    requires { ⌜ from ≤ length (now bytes) ⌝ }
+    ensures { λ t. ⌜ t ≡ turnFrom address room 0 from (drop from (now (bytes .entry))) ⌝ }
 {
-    Called {
-        answer: Answer::Served(Report {
-            taken: taken,
-            answered: answered,
-            written: written,
-        }),
-        after: after,
+    let mut taken = from;
+    loop {
+        match next_frame(bytes, taken) {
+            Found::Stop(place) => {
+                return Turn::Stop(place);
+            }
+            Found::Frame(start, end) => {
+                match due_to(address, &bytes[start..end], room) {
+                    Due::Refused => {
+                        taken = start + 1;
+                    }
+                    Due::OtherUnit => {
+                        taken = end;
+                    }
+                    Due::NoRoom => {
+                        return Turn::Stop(start);
+                    }
+                    Due::Answered(n) => {
+                        let text = start + 1;
+                        return Turn::Answer(text, text + n, end);
+                    }
+                }
+            }
+        }
     }
+}
+
+fn served(taken: usize, answered: usize, written: usize) -> Answer
+    ensures { λ a. ⌜ a ≡ servedAs taken answered written ⌝ }
+{
+    Answer::Served(Report {
+        taken: taken,
+        answered: answered,
+        written: written,
+    })
 }
 
 // Answers all frames in the lent bytes, replies end to end.
@@ -155,45 +201,76 @@ pub fn call(before: Record, bytes: &[u8], out: &mut [u8]) -> Called
     let mut written = 0;
     let mut current = before;
     loop {
-        match next_frame(bytes, taken) {
-            Found::Stop(place) => {
-                return served(place, answered, written, current);
+        match next_due(before.address, bytes, taken, out.len() - written) {
+            Turn::Stop(place) => {
+                let answer = served(place, answered, written);
+                return Called {
+                    answer: answer,
+                    after: current,
+                };
             }
-            Found::Frame(start, end) => {
-                match due_to(before.address, &bytes[start..end], out.len() - written) {
-                    Due::Refused => {
-                        taken = start + 1;
-                    }
-                    Due::OtherUnit => {
-                        taken = end;
-                    }
-                    Due::NoRoom => {
-                        return served(start, answered, written, current);
-                    }
-                    Due::Answered(n) => {
-                        let text = start + 1;
-                        let text_end = text + n;
-                        let replied = controller::reply_to(
-                            Kind::Minicomputer,
-                            current,
-                            &bytes[text..text_end],
-                            &mut out[written..],
-                        );
-                        let answer = replied.answer;
-                        let effect = replied.effect;
-                        taken = end;
-                        // there is room, so it is no silence
-                        answered += 1;
-                        written += answer.length();
-                        // not by `carry_out`, which copies the record for a read too
-                        match effect {
-                            Effect::Nothing => {}
-                            Effect::Write(request) => {
-                                current = command::apply(current, request);
-                            }
-                        }
+            Turn::Answer(text, text_end, end) => {
+                let replied = controller::reply_to(
+                    Kind::Minicomputer,
+                    current,
+                    &bytes[text..text_end],
+                    &mut out[written..],
+                );
+                let answer = replied.answer;
+                let effect = replied.effect;
+                taken = end;
+                // there is room, so it is no silence
+                answered += 1;
+                written += answer.length();
+                // not by `carry_out`, which copies the record for a read too
+                match effect {
+                    Effect::Nothing => {}
+                    Effect::Write(request) => {
+                        current = command::apply(current, request);
                     }
                 }
+            }
+        }
+    }
+}
+
+// The same with a bank beside the record.
+pub fn call_banked(before: Banked, bytes: &[u8], out: &mut [u8]) -> CalledBanked
+    ensures { λ c. ⌜ severalAs (c .answer) (c .after) (now (out .exit)) ≡ bankedSeveralOf before (now (bytes .entry)) (now (out .entry)) ⌝ }
+{
+    if !before.valid() {
+        return CalledBanked {
+            answer: Answer::Silent(Silence::InvalidRecord),
+            after: before,
+        };
+    }
+    let mut taken = 0;
+    let mut answered = 0;
+    let mut written = 0;
+    let mut held = before;
+    loop {
+        match next_due(before.state.address, bytes, taken, out.len() - written) {
+            Turn::Stop(place) => {
+                let answer = served(place, answered, written);
+                return CalledBanked {
+                    answer: answer,
+                    after: held,
+                };
+            }
+            Turn::Answer(text, text_end, end) => {
+                let replied = banked::reply_to(
+                    Kind::Minicomputer,
+                    held,
+                    &bytes[text..text_end],
+                    &mut out[written..],
+                );
+                let answer = replied.answer;
+                let after = replied.after;
+                taken = end;
+                // there is room, so it is no silence
+                answered += 1;
+                written += answer.length();
+                held = after;
             }
         }
     }

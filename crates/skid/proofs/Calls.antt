@@ -1,4 +1,5 @@
--- The picked recipe's factor in the controller's record, what SB does to that record, and what a right reply to RC or SB says of it. Assumes nothing.
+-- The picked recipe's factor in the controller's record, what SB does to that record, and what a right reply to RC or SB says of it: all of
+-- document 01's call, of the record alone. Assumes nothing.
 use Prim.Native.Nat.{ℕ, _^_, _≤_, _<_}
 use mathlib.Core.Bool.{true}
 use mathlib.Core.Path.{_≡_, refl, sym, ap, _∙_, subst}
@@ -33,7 +34,8 @@ use Rattle.controller.proofs.Exactly.{noFrame, sent-frame, accepted-exactly}
 use Rattle.drum.specs.declared.Change.{Change}
 use Rattle.drum.specs.Drum.{asks, wants, framed, requestFrame, replyFrame, last}
 use Rattle.drum.proofs.Cases.{InRange}
-use Rattle.skid.specs.Exchange.{called, Holds, Closed, Apart}
+use Rattle.skid.specs.Exchange.{Holds, Closed, Apart}
+use Rattle.skid.proofs.Beside.{calledAlone}
 
 -- ---- the factor of a recipe
 module _ (r : ℕ) (h : within (fieldRange recipe) r ≡ true) where
@@ -94,7 +96,7 @@ module _ (p : ℕ) (cs : List commands.Change) (t u w : Record) (before : (z : F
       }
 
 -- ---- a reply x whose first letter is behind the N of NO was given to an accepted request
-module _ (u : Record) (q o x : List ℕ) (h : replyIn (called u q o) ≡ x) (letter : 0x4e < getD x 3 0) where
+module _ (u : Record) (q o x : List ℕ) (h : replyIn (calledAlone u q o) ≡ x) (letter : 0x4e < getD x 3 0) where
   abbrev t : List ℕ
   t = textIn Minicomputer q
 
@@ -102,11 +104,11 @@ module _ (u : Record) (q o x : List ℕ) (h : replyIn (called u q o) ≡ x) (let
   answered =
       ⊎-elim
       (λ (s : Silenced Minicomputer u q o).
-      let none : [] ≡ x = sym (ap (λ (n : ℕ). take n (called u q o .buffer)) (s .nothing)) ∙ h in
+      let none : [] ≡ x = sym (ap (λ (n : ℕ). take n (calledAlone u q o .buffer)) (s .nothing)) ∙ h in
       let e : 0 ≡ getD x 3 0 = ap (λ (y : List ℕ). getD y 3 0) none in absurd (omega arith))
       (λ (s : Answered Minicomputer u q o). s) (every-input Minicomputer u q o)
 
-  no-refusal : (n : ℕ) → replyIn (called u q o) ≡ noFrame Minicomputer u n → ⊥
+  no-refusal : (n : ℕ) → replyIn (calledAlone u q o) ≡ noFrame Minicomputer u n → ⊥
   unfolding frameOf digits
   no-refusal n e = let z : getD x 3 0 ≡ 0x4e = ap (λ (y : List ℕ). getD y 3 0) (sym h ∙ e) in omega arith
 
@@ -119,7 +121,7 @@ module _ (u : Record) (q o x : List ℕ) (h : replyIn (called u q o) ≡ x) (let
   shown-so =
       sym (sent-frame Minicomputer u q o (answered .heard) ∙ ap (λ (v : Verdict). framed (get address u) (replyFor v t u)) accepted-so) ∙ h
 
-  fields-so : (z : Field) → get z (called u q o .after) ≡ numberAfter z (rowOf (codeIn t) commands.commands .effect (argumentsIn t)) u
+  fields-so : (z : Field) → get z (calledAlone u q o .after) ≡ numberAfter z (rowOf (codeIn t) commands.commands .effect (argumentsIn t)) u
   fields-so z = ap (get z) (answered .next-record) ∙ changes-exactly t u (answered .valid-record) accepted-so z
 
 -- ---- RC's frame tells its two numbers
@@ -139,13 +141,13 @@ composition-tells a b r f n m h i j k e = (
 
 -- ---- the right replies to RC and SB
 
--- asked step i, the controller replied as is wanted
+-- asked step i, document 01's controller replied as is wanted
 abbrev pub Right : Change → Record → List ℕ → ℕ → Type 0
-Right s u o i = replyIn (called u (requestFrame i s) o) ≡ replyFrame i s
+Right s u o i = replyIn (calledAlone u (requestFrame i s) o) ≡ replyFrame i s
 
 -- its record then
 abbrev pub unitAfter : Change → Record → List ℕ → ℕ → Record
-unitAfter s u o i = called u (requestFrame i s) o .after
+unitAfter s u o i = calledAlone u (requestFrame i s) o .after
 
 module _ (s : Change) (k : InRange s) (u : Record) (o : List ℕ) where
   pub composition-right : Right s u o 4 → Holds (s .recipe) (s .factor) (unitAfter s u o 4)

@@ -1,4 +1,5 @@
--- "Against document 01's controller .. it always ends with SB's OK." Assumes nothing.
+-- "Against document 01's controller .. it always ends with SB's OK", also with a bank beside the record: the five calls are document 01's, of
+-- the record alone, and a bank that S1 lets pass stays as it was. Assumes nothing.
 use Prim.Native.Nat.{ℕ, zero, suc, _+_, _≤_, _<_}
 use mathlib.Core.Bool.{true}
 use mathlib.Core.Path.{_≡_, refl, sym, ap, _∙_, subst}
@@ -15,11 +16,15 @@ use Rattle.state.specs.Parameter.{ofRecipe, codeOf, rangeAt}
 use Rattle.state.specs.Field.{Field, address, access, phase, keypad, changed, reset, recipe, raw, number, value, level, get, position}
 use Rattle.state.specs.Valid.{within}
 use Rattle.state.specs.Event.{nextNumber, batchSet, flagAfter}
+use Rattle.bank.specs.declared.Bank.{Bank}
+use Rattle.bank.specs.Bank as bank
 use Rattle.frame.specs.declared.Kind.the-variants.{Minicomputer}
 use Rattle.command.specs.Commands as commands
 use Rattle.command.specs.Commands.{factorPlace, _≔_, newValue, applied}
 use Rattle.command.proofs.Tables.{numberAfter, Fitting, applied-valid, applied-reads}
 use Rattle.controller.proofs.ReadBack.{LeavesAt, AnswersAt, parameterShown, composition-same, recipe-served, value-served, batch-served, value-read, composition-read, held-there, held-elsewhere}
+use Rattle.banked.specs.declared.Banked.{Banked}
+use Rattle.banked.specs.Banked.{with}
 use Rattle.drum.specs.declared.Change.{Change}
 use Rattle.drum.specs.Drum.{asks, wants, good, checked, last, end, handsOut, picked, beginOf}
 use Rattle.drum.proofs.Cases.{InRange, good-tells}
@@ -34,18 +39,20 @@ abbrev Lead : Change → ℕ → ℕ → Record → Record → Type 0
 Lead s zero i u w = u ≡ w
 Lead s (suc n) i u w = (v : Record) × Gives i s u v × Lead s n (i + 1) v w
 
-abbrev Ended : Both → Record → Type 0
+abbrev Ended : Both → Banked → Type 0
 Ended x w = (x .change .told ≡ end) × (x .unit ≡ w)
 
-run-ends : (s : Change) → checked s ≡ good → (ls : List Lent) (l : Lent) (i : ℕ) (b : List ℕ) (u w : Record)
-    → AllRoomy (l ∷ ls) → 1 ≤ i → i + length ls ≡ last → Lead s (suc (length ls)) i u w → Ended (run (l ∷ ls) (both (handsOut i s b) u)) w
-unfolding run
-run-ends s fine [] l i b u w m low e (v, g, same) =
-    subst (λ (x : Both). Ended x w) (sym (answered-right i s fine low (omega arith) b l u v (m .0) g)) (simp (eq-eqb i last (omega arith)) (refl, same))
-run-ends s fine (k ∷ ls) l i b u w m low e (v, g, rest) =
-    subst (λ (x : Both). Ended (run (k ∷ ls) x) w)
-    (sym (answered-right i s fine low (omega arith) b l u v (m .0) g ∙ simp (ne-eqb i last (λ z. omega arith))))
-    (run-ends s fine ls k (i + 1) (l .next) v w (m .1) (omega arith) (omega arith) rest)
+module _ (s : Change) (fine : checked s ≡ good) (k : Bank) (passes : bank.valid k ≡ true) where
+  run-ends : (ls : List Lent) (l : Lent) (i : ℕ) (b : List ℕ) (u w : Record) → AllRoomy (l ∷ ls) → 1 ≤ i → i + length ls ≡ last
+      → Lead s (suc (length ls)) i u w → Ended (run (l ∷ ls) (both (handsOut i s b) (with u k))) (with w k)
+  unfolding run
+  run-ends [] l i b u w m low e (v, g, same) =
+      subst (λ (x : Both). Ended x (with w k)) (sym (answered-right i s fine low (omega arith) b l k u v passes (m .0) g))
+      (simp (eq-eqb i last (omega arith)) (refl, ap (λ (x : Record). with x k) same))
+  run-ends (n ∷ ls) l i b u w m low e (v, g, rest) =
+      subst (λ (x : Both). Ended (run (n ∷ ls) x) (with w k))
+      (sym (answered-right i s fine low (omega arith) b l k u v passes (m .0) g ∙ simp (ne-eqb i last (λ z. omega arith))))
+      (run-ends ls n (i + 1) (l .next) v w (m .1) (omega arith) (omega arith) rest)
 
 -- ---- the changes that NR, PC and SB make one after the other
 abbrev recipeChanges : ℕ → List commands.Change
@@ -71,7 +78,7 @@ module _ (r f : ℕ) (u : Record) (g : Field) (h : Apart g (written r)) where
   after-value = held-elsewhere (value (factorPlace r)) g f _ (h .1 .0) ∙ (held-elsewhere changed g _ _ (h .1 .1 .0) ∙ after-recipe)
 
 -- changes of these fields only leave the record as ready
-module _ (a r : ℕ) (u : Record) (g : Ready a r u) (cs : List commands.Change) (fits : Fitting cs)
+module _ (a r : ℕ) (u : Record) (k : Bank) (g : Ready a r (with u k)) (cs : List commands.Change) (fits : Fitting cs)
     (spared : (z : Field) → Apart z (written r) → numberAfter z cs u ≡ get z u) where
   kept : (z : Field) → Apart z (written r) → get z (applied cs u) ≡ get z u
   kept z h = applied-reads u (g .valid-record) cs fits z ∙ spared z h
@@ -80,28 +87,29 @@ module _ (a r : ℕ) (u : Record) (g : Ready a r u) (cs : List commands.Change) 
   early : (z : Field) → position z < position changed → get z (applied cs u) ≡ get z u
   early z h = kept z ((λ e. omega arith) also (λ e. omega arith) also (λ e. omega arith) also tt)
 
-  ready-still : Ready a r (applied cs u)
+  ready-still : Ready a r (with (applied cs u) k)
   ready-still =
       let level-kept = kept (level (factorPlace r)) ((λ e. omega arith) also (λ e. omega arith) also (λ e. omega arith) also tt) in
       let access-kept = early access (omega arith) in
       let h = g .level-within in
       record {
         valid-record = applied-valid u (g .valid-record) cs fits;
+        valid-bank = g .valid-bank;
         same-address = early address (omega arith) ∙ g .same-address;
         in-idle = early phase (omega arith) ∙ g .in-idle;
         keypad-off = early keypad (omega arith) ∙ g .keypad-off;
         level-within = omega arith;
       }
 
-module _ (a r f p : ℕ) (fine : checked (picked a r f p) ≡ good) (u : Record) (g : Ready a r u) where
+module _ (a r f p : ℕ) (fine : checked (picked a r f p) ≡ good) (u : Record) (k : Bank) (g : Ready a r (with u k)) where
   abbrev s : Change
   s = picked a r f p
 
   abbrev factor : Field
   factor = value (factorPlace r)
 
-  k : InRange s
-  k = good-tells s fine
+  ranges : InRange s
+  ranges = good-tells s fine
 
   -- ---- the records after NR, after PC and after SB
   abbrev chosen : Record
@@ -114,14 +122,14 @@ module _ (a r f p : ℕ) (fine : checked (picked a r f p) ≡ good) (u : Record)
   loaded = applied (allChanges r f p) u
 
   factor-fits : within (rangeAt (factorPlace r)) f ≡ true
-  factor-fits = sym (factor-within r (k .recipe-in) f) ∙ k .factor-in
+  factor-fits = sym (factor-within r (ranges .recipe-in) f) ∙ ranges .factor-in
 
   value-fits : Fitting (valueChanges r f)
-  value-fits = let h = recipe-high r (k .recipe-in) in (omega arith, factor-fits) also (omega arith, omega arith, k .recipe-in) also tt
+  value-fits = let h = recipe-high r (ranges .recipe-in) in (omega arith, factor-fits) also (omega arith, omega arith, ranges .recipe-in) also tt
 
   all-fits : Fitting (allChanges r f p)
   all-fits =
-      (omega arith, omega arith, refl) also (omega arith, omega arith, between-yes _ _ p (omega arith) (between-high _ _ p (k .preset-in)))
+      (omega arith, omega arith, refl) also (omega arith, omega arith, between-yes _ _ p (omega arith) (between-high _ _ p (ranges .preset-in)))
       also (omega arith, omega arith, refl) also (omega arith, omega arith, refl) also tt also value-fits
 
   adjusted-reads : (z : Field) → get z adjusted ≡ numberAfter z (valueChanges r f) u
@@ -130,11 +138,11 @@ module _ (a r f p : ℕ) (fine : checked (picked a r f p) ≡ good) (u : Record)
   loaded-reads : (z : Field) → get z loaded ≡ numberAfter z (allChanges r f p) u
   loaded-reads = applied-reads u (g .valid-record) (allChanges r f p) all-fits
 
-  chosen-ready : Ready a r chosen
-  chosen-ready = ready-still a r u g (recipeChanges r) (value-fits .1) (after-recipe r f u)
+  chosen-ready : Ready a r (with chosen k)
+  chosen-ready = ready-still a r u k g (recipeChanges r) (value-fits .1) (after-recipe r f u)
 
-  adjusted-ready : Ready a r adjusted
-  adjusted-ready = ready-still a r u g (valueChanges r f) value-fits (after-value r f u)
+  adjusted-ready : Ready a r (with adjusted k)
+  adjusted-ready = ready-still a r u k g (valueChanges r f) value-fits (after-value r f u)
 
   adjusted-holds : Holds r f adjusted
   unfolding numberAfter
@@ -144,7 +152,7 @@ module _ (a r f p : ℕ) (fine : checked (picked a r f p) ≡ good) (u : Record)
         factor-held = adjusted-reads factor ∙ held-there factor f _;
       }
 
-  loaded-so : Loaded r f p u loaded
+  loaded-so : Loaded r f p (with u k) (with loaded k)
   unfolding numberAfter
   loaded-so =
       record {
@@ -160,16 +168,17 @@ module _ (a r f p : ℕ) (fine : checked (picked a r f p) ≡ good) (u : Record)
             λ z h.
             batch-leaves p (valueChanges r f) u adjusted loaded adjusted-reads loaded-reads z (h .1 .1 .1)
             ∙ (adjusted-reads z ∙ after-value r f u z (h .0 also h .1 .0 also h .1 .1 .0 also tt));
+        same-bank = refl;
       }
 
   -- ---- the five calls, at the picked address
-  given : (i : ℕ) (t w : Record) → Ready a r t
+  given : (i : ℕ) (t w : Record) → Ready a r (with t k)
       → ((o : List ℕ) → 64 ≤ length o → LeavesAt Minicomputer t o (get address t) (asks i s) (wants i s) w) → Gives i s t w
   given i t w h e o room = subst (λ (n : ℕ). LeavesAt Minicomputer t o n (asks i s) (wants i s) w) (h .same-address) (e o room)
 
   recipe-given : Gives 1 s u chosen
   unfolding asks wants applied
-  recipe-given = given 1 u chosen g (λ o room. recipe-served Minicomputer u o (g .valid-record) room (g .in-idle) (g .keypad-off) r (k .recipe-in))
+  recipe-given = given 1 u chosen g (λ o room. recipe-served Minicomputer u o (g .valid-record) room (g .in-idle) (g .keypad-off) r (ranges .recipe-in))
 
   value-given : Gives 2 s chosen adjusted
   unfolding asks wants applied
@@ -177,7 +186,7 @@ module _ (a r f p : ℕ) (fine : checked (picked a r f p) ≡ good) (u : Record)
       let h = chosen-ready in
       given 2 chosen adjusted h
       (λ o room. value-served Minicomputer chosen o (h .valid-record) room (h .in-idle) (h .keypad-off) (codeOf (ofRecipe r Factor)) (factorPlace r) f
-      (factor-place r (k .recipe-in)) (factor-below f (k .factor-in)) factor-fits (h .level-within))
+      (factor-place r (ranges .recipe-in)) (factor-below f (ranges .factor-in)) factor-fits (h .level-within))
 
   value-shown : Gives 3 s adjusted adjusted
   unfolding asks wants digits
@@ -187,7 +196,7 @@ module _ (a r f p : ℕ) (fine : checked (picked a r f p) ≡ good) (u : Record)
       given 3 adjusted adjusted h
       (λ o room. subst (λ (n : ℕ). AnswersAt Minicomputer adjusted o (get address adjusted) (asks 3 s) (parameterShown (text "PV ") c 8 n))
       (adjusted-holds .factor-held)
-      (value-read Minicomputer adjusted o (h .valid-record) room c (factorPlace r) (factor-place r (k .recipe-in))))
+      (value-read Minicomputer adjusted o (h .valid-record) room c (factorPlace r) (factor-place r (ranges .recipe-in))))
 
   composition-shown : Gives 4 s adjusted adjusted
   unfolding asks wants
@@ -205,18 +214,19 @@ module _ (a r f p : ℕ) (fine : checked (picked a r f p) ≡ good) (u : Record)
       let h = adjusted-ready in
       given 5 adjusted loaded h
       (λ o room. batch-served Minicomputer adjusted o (h .valid-record) room (h .in-idle) (h .keypad-off) p
-      (between-low _ _ p (k .preset-in)) (between-high _ _ p (k .preset-in)))
+      (between-low _ _ p (ranges .preset-in)) (between-high _ _ p (ranges .preset-in)))
 
   five-lead : Lead s 5 1 u loaded
   five-lead = (_, recipe-given, (_, value-given, (_, value-shown, (_, composition-shown, (_, batch-given, refl)))))
 
 -- "it always ends with SB's OK": after five exchanges, whatever the lent buffers hold
-pub always-ends : (a r f p : ℕ) → checked (picked a r f p) ≡ good → (o : List ℕ) → 64 ≤ length o → (u : Record) → Ready a r u
+pub always-ends : (a r f p : ℕ) → checked (picked a r f p) ≡ good → (o : List ℕ) → 64 ≤ length o → (u : Banked) → Ready a r u
     → (ls : List Lent) → length ls ≡ 5 → AllRoomy ls
     → (run ls (both (beginOf a r f p o) u) .change .told ≡ end) × Loaded r f p u (run ls (both (beginOf a r f p o) u) .unit)
 unfolding beginOf
 always-ends a r f p fine o room u g [] e m = absurd (omega arith)
 always-ends a r f p fine o room u g (l ∷ ls) e m =
-    let lead = subst (λ (n : ℕ). Lead (picked a r f p) n 1 u (loaded a r f p fine u g)) (sym e) (five-lead a r f p fine u g) in
-    let (told, left) = run-ends (picked a r f p) fine ls l 1 o u (loaded a r f p fine u g) m (omega arith) (omega arith) lead in
-    simp (fine, le-leb 64 (length o) room) (told, subst (Loaded r f p u) (sym left) (loaded-so a r f p fine u g))
+    let w : Record = loaded a r f p fine (u .state) (u .bank) g in
+    let lead = subst (λ (n : ℕ). Lead (picked a r f p) n 1 (u .state) w) (sym e) (five-lead a r f p fine (u .state) (u .bank) g) in
+    let (told, left) = run-ends (picked a r f p) fine (u .bank) (g .valid-bank) ls l 1 o (u .state) w m (omega arith) (omega arith) lead in
+    simp (fine, le-leb 64 (length o) room) (told, subst (Loaded r f p u) (sym left) (loaded-so a r f p fine (u .state) (u .bank) g))

@@ -1,3 +1,4 @@
+pub mod Beside
 pub mod Steps
 pub mod Calls
 pub mod Ends

@@ -1,5 +1,5 @@
--- Document 02, L6: a drum change "against document 01's controller ..and nothing else acting on it".
--- a, r, f and p are the picked address, recipe, factor and preset; u and w records of the controller.
+-- Document 02, L6: a drum change "against document 01's controller .. and nothing else acting on it"; L7: "L6's controller has such a bank
+-- too." a, r, f and p are the picked address, recipe, factor and preset; u and w what the controller holds: a record, and a bank beside it.
 use Prim.Native.Nat.{ℕ, _≤_}
 use mathlib.Core.Bool.{true}
 use mathlib.Core.Path.{_≡_}
@@ -9,10 +9,12 @@ use Rattle.state.specs.declared.Record.{Record}
 use Rattle.state.specs.Field.{Field, address, access, phase, keypad, changed, reset, recipe, preset, raw, number, value, level, get, position, on, off}
 use Rattle.state.specs.Valid.{valid}
 use Rattle.state.specs.Event.{idle, set, nextNumber, flagAfter}
+use Rattle.bank.specs.Bank as bank
 use Rattle.frame.specs.declared.Kind.the-variants.{Minicomputer}
 use Rattle.command.specs.Commands.{factorPlace}
-use Rattle.controller.specs.Call as controller
-use Rattle.controller.specs.Call.{callOf, replyIn}
+use Rattle.controller.specs.Call.{OutcomeOf, replyIn}
+use Rattle.banked.specs.declared.Banked.{Banked}
+use Rattle.banked.specs.Banked.{bankedOf}
 use Rattle.drum.specs.Drum.{Outcome, takeOf}
 use Rattle.drum.specs.Turns.{handedOut}
 
@@ -32,17 +34,17 @@ abbrev pub AllRoomy : List Lent → Type 0
 AllRoomy [] = Unit {0}
 AllRoomy (l ∷ ls) = Roomy l × AllRoomy ls
 
--- what the change last told, and the controller's record
+-- what the change last told, and what the controller holds
 pub record Both : Type 0 where
   pub change : Outcome
-  pub unit : Record
+  pub unit : Banked
 
-abbrev pub both : Outcome → Record → Both
+abbrev pub both : Outcome → Banked → Both
 both x u = record { change = x; unit = u }
 
 -- one exchange: the controller is called with the bytes that were handed out, and the bytes that it reports are taken
-abbrev pub called : Record → List ℕ → List ℕ → controller.Outcome
-called u q o = callOf Minicomputer u q o
+abbrev pub called : Banked → List ℕ → List ℕ → OutcomeOf Banked
+called u q o = bankedOf Minicomputer u q o
 
 unfoldable pub exchanged : Lent → Both → Both
 exchanged l w =
@@ -53,15 +55,17 @@ unfoldable pub run : List Lent → Both → Both
 run [] w = w
 run (l ∷ ls) w = run ls (exchanged l w)
 
--- ---- "document 01's controller at that address, record valid, Idle, keypad off, the factor's level within the access"
-pub record Ready (a r : ℕ) (u : Record) : Type 0 where
-  pub valid-record : valid u ≡ true
-  pub same-address : get address u ≡ a
-  pub in-idle : get phase u ≡ idle
-  pub keypad-off : get keypad u ≡ off
-  pub level-within : get (level (factorPlace r)) u ≤ get access u
+-- ---- "document 01's controller at that address, record valid, Idle, keypad off, the factor's level within the access", with "any bank that
+-- S1 lets pass"
+pub record Ready (a r : ℕ) (u : Banked) : Type 0 where
+  pub valid-record : valid (u .state) ≡ true
+  pub valid-bank : bank.valid (u .bank) ≡ true
+  pub same-address : get address (u .state) ≡ a
+  pub in-idle : get phase (u .state) ≡ idle
+  pub keypad-off : get keypad (u .state) ≡ off
+  pub level-within : get (level (factorPlace r)) (u .state) ≤ get access (u .state)
 
--- ---- what the controller holds
+-- ---- what the controller's record w holds
 
 -- the picked recipe and factor
 pub record Holds (r f : ℕ) (w : Record) : Type 0 where
@@ -83,13 +87,14 @@ Apart g (f ∷ fs) = (position f ≡ position g → ⊥) × Apart g fs
 abbrev pub altered : ℕ → List Field
 altered r = recipe ∷ value (factorPlace r) ∷ changed ∷ phase ∷ preset ∷ raw ∷ reset ∷ number ∷ []
 
--- the record after a whole change of the record u: changed as by PC (02, L2), raw, reset and number as by SB; every field that is not
--- altered is as it was
-pub record Loaded (r f p : ℕ) (u w : Record) : Type 0 where
-  pub valid-record : valid w ≡ true
-  pub closed : Closed r f p w
-  pub changed-by : get changed w ≡ flagAfter (get (value (factorPlace r)) u) f (get changed u)
-  pub raw-zero : get raw w ≡ 0
-  pub reset-on : get reset w ≡ on
-  pub number-next : get number w ≡ nextNumber (get number u)
-  pub others : (g : Field) → Apart g (altered r) → get g w ≡ get g u
+-- what is held after a whole change of u: changed as by PC (02, L2), raw, reset and number as by SB; every field that is not altered is as it
+-- was, and so is the bank, batch for batch
+pub record Loaded (r f p : ℕ) (u w : Banked) : Type 0 where
+  pub valid-record : valid (w .state) ≡ true
+  pub closed : Closed r f p (w .state)
+  pub changed-by : get changed (w .state) ≡ flagAfter (get (value (factorPlace r)) (u .state)) f (get changed (u .state))
+  pub raw-zero : get raw (w .state) ≡ 0
+  pub reset-on : get reset (w .state) ≡ on
+  pub number-next : get number (w .state) ≡ nextNumber (get number (u .state))
+  pub others : (g : Field) → Apart g (altered r) → get g (w .state) ≡ get g (u .state)
+  pub same-bank : w .bank ≡ u .bank

@@ -2,14 +2,16 @@
 use Prim.Native.Nat.{ℕ, zero, suc, _+_, _-_, _*_, _/_, _%_, _^_, _≤_, _<_}
 use mathlib.Core.Path.{_≡_, refl, sym, ap, _∙_}
 use mathlib.Core.List.{List, [], _∷_, _++_, append-assoc, append-nil}
+use mathlib.Core.Logic.{⊎-elim}
 use native.Mathlib.Nat.{pow-suc}
 use native.Mathlib.Numerals.{add-one}
 use native.Mathlib.Omega.{arith}
-use lib.ListN.{length, getD, take, drop, set, length-append, length-take, length-drop}
-use lib.Seq.{take-suc, take-all, drop-drop, drop-length, sets, sets-eq}
+use lib.ListN.{length, getD, take, drop, set, length-append, length-take, length-drop, List·getD-eq-default}
+use lib.Seq.{getD-take, getD-drop, take-suc, take-all, drop-drop, drop-length, sets, sets-eq}
 use borrow.Rule.Slice.PartMut.{putMid}
 use Rattle.base.specs.Lists.{over}
-use Rattle.base.proofs.Lists.{fill-before}
+use Rattle.base.proofs.Tests.{below-or-not}
+use Rattle.base.proofs.Lists.{next, fill-before}
 use Rattle.stored.specs.Form.{bigEndian, numberFrom, numberOf}
 
 -- ---- one number
@@ -36,6 +38,22 @@ number-big (suc w) n h =
 abbrev pub Bytes : List ℕ → Type 0
 Bytes bs = (i : ℕ) → getD bs i 0 < 256
 
+-- bytes below 256, place by place
+pub all-bytes : (bs : List ℕ) → ((i : ℕ) → i < length bs → getD bs i 0 < 256) → Bytes bs
+all-bytes bs h i = ⊎-elim (h i) (λ (q : length bs ≤ i). omega (arith, List·getD-eq-default bs 0 q)) (below-or-not i (length bs))
+
+-- and so are those of a part
+pub bytes-drop : (n : ℕ) (bs : List ℕ) → Bytes bs → Bytes (drop n bs)
+bytes-drop n bs h i = let e = getD-drop n bs i 0 in omega (arith, h (n + i))
+
+pub bytes-take : (n : ℕ) (bs : List ℕ) → Bytes bs → Bytes (take n bs)
+bytes-take n bs h i =
+    ⊎-elim (λ (q : i < n). omega (arith, getD-take n bs i 0 q, h i))
+    (λ (q : n ≤ i).
+    let l : length (take n bs) ≤ i = simp length-take (omega arith) in
+    omega (arith, List·getD-eq-default (take n bs) 0 l))
+    (below-or-not i n)
+
 big-last : (v a b : ℕ) (bs : List ℕ) → b < 256 → bigEndian (suc v) (a * 256 + b) ++ bs ≡ bigEndian v a ++ (b ∷ bs)
 unfolding bigEndian
 big-last v a b bs l =
@@ -57,6 +75,11 @@ pub big-number : (w : ℕ) (bs : List ℕ) → length bs ≡ w → Bytes bs → 
 unfolding bigEndian
 big-number w bs e h =
     let q : w ≡ 0 + length bs = omega arith in ap (λ (v : ℕ). bigEndian v (numberOf bs)) q ∙ big-from 0 0 bs h
+
+-- the number of the bytes from a place on, one byte further
+pub number-next : (a w i : ℕ) (bs : List ℕ) → i < length bs → numberFrom a (take (suc w) (drop i bs)) ≡ numberFrom (a * 256 + getD bs i 0) (take w (drop (i + 1) bs))
+unfolding numberFrom
+number-next a w i bs h = ap (λ (l : List ℕ). numberFrom a (take (suc w) l)) (next bs i h)
 
 -- ---- reading: the loop of `number_in`
 power-high : (i : ℕ) → i ≤ 3 → 256 ^ i ≤ 16777216

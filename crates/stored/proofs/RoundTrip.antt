@@ -1,28 +1,28 @@
 -- Reading gives back what was written, and writing what was read, by laws over the version; bytes of version 1 are read as the same bytes
 -- with no alarm. Assumes nothing.
-use Prim.Native.Nat.{ℕ, zero, suc, _+_, _^_, _≤_, _<_}
+use Prim.Native.Nat.{ℕ, _+_, _^_, _≤_, _<_}
 use mathlib.Core.Bool.{Bool, true, false, _&&_}
 use mathlib.Core.Path.{_≡_, refl, sym, ap, subst, _∙_}
-use mathlib.Core.List.{List, [], _∷_, _++_, map, append-assoc}
-use mathlib.Core.Logic.{⊎-elim}
+use mathlib.Core.List.{List, [], _∷_, _++_, map, append-nil}
 use native.Mathlib.Omega.{arith}
 use lib.Dec.{eqb, leb, ltb}
-use lib.ListN.{length, getD, take, drop, length-append, length-take, length-drop, take-append-drop, drop-of-length-le, List·getD-eq-default}
-use lib.Seq.{getD-take, getD-drop, drop-cons, drop-drop, take-nil, take-take, take-at, drop-at, length-take-le}
+use lib.ListN.{length, getD, take, drop, length-append, length-drop, length-map}
+use lib.Seq.{drop-drop, take-all, take-at, drop-at, length-take-le}
 use borrow.Author.Tests.{eq-eqb, ne-eqb, eqb-true, le-leb, leb-true, ltb-true}
 use Rattle.base.specs.Test.{unless, member}
 use Rattle.base.specs.Lists.{over}
-use Rattle.base.proofs.Tests.{by-test, below-or-not, and-left, and-right, between-high}
+use Rattle.base.proofs.Tests.{by-test, and-left, and-right, between-high}
 use Rattle.state.specs.declared.Record.{Record}
 use Rattle.state.specs.Parameter.{parameterCount, rangeAt}
 use Rattle.state.specs.Alarm.{noAlarm}
 use Rattle.state.specs.Field.{Field, alarms, position, get, recordFrom}
 use Rattle.state.specs.Valid.{valid}
 use Rattle.stored.specs.declared.Slot.{Slot}
-use Rattle.stored.specs.Layout.{Item, bitMapped, scalarItems, parameterItems, versions, current, items, headerWidth, itemWidth, totalWidth, parametersAt, itemSlot, slotsFrom, fits, numbersOf, putAll}
-use Rattle.stored.specs.Form.{Outcome, K, done, bigEndian, numberFrom, numberOf, pack, packed, numberAt, numbersIn, allFit, storedLength, versionOf, headerBytes, storedForm, writeOf, headerOf, lowRecord, takenFrom, bodyOf, afterHeader, readOf}
+use Rattle.stored.specs.Layout.{Item, bitMapped, scalarItems, parameterItems, versions, current, items, headerWidth, itemWidth, widths, totalWidth, parametersAt, itemSlot, slotsFrom, fits, numbersOf, putAll}
+use Rattle.stored.specs.Form.{Outcome, K, done, bigEndian, numberFrom, numberOf, pack, unpack, packed, numberAt, numbersIn, allFit, storedLength, versionOf, headerBytes, storedForm, writeOf, headerOf, lowRecord, takenFrom, bodyOf, afterHeader, readOf}
 use Rattle.base.proofs.Lists.{over-take}
-use Rattle.stored.proofs.Bytes.{Bytes, big-length, number-big, big-number}
+use Rattle.stored.proofs.Bytes.{Bytes, all-bytes, bytes-drop, big-length}
+use Rattle.stored.proofs.Packing.{Roomy, number-front, header-back, unpack-length, unpack-pack, pack-unpack, unpack-front}
 use Rattle.stored.proofs.Slots.{slot-width, sharedSlots}
 use Rattle.stored.proofs.Versions.{Known, version-length, none-found, length-version, length-items}
 use Rattle.stored.proofs.Alarms.{zero-fits}
@@ -36,74 +36,52 @@ pub use Rattle.stored.proofs.Writing.{form-length}
 
 -- ---- numbers and bytes are inverse, over any items
 
--- every number of the slot has room in its bytes
-abbrev roomy : List Slot → Bool
-roomy [] = true
-roomy (s ∷ ss) = ltb (s .high) (256 ^ s .width) && roomy ss
-
 -- the number in an item's slot
 number-at : (at : ℕ) (x : Item) (bs : List ℕ) → numberAt bs (itemSlot at x) ≡ numberOf (take (itemWidth x) (drop at bs))
 number-at at x bs =
     let e = slot-width at x in
     ap (λ (k : ℕ). numberOf (take (itemSlot at x .width) (drop k bs))) (e .1) ∙ ap (λ (k : ℕ). numberOf (take k (drop at bs))) (e .0)
 
--- behind some bytes
-number-there : (before rest : List ℕ) (x : Item) (n : ℕ) → fits x n ≡ true → itemSlot (length before) x .high < 256 ^ itemSlot (length before) x .width
-    → numberAt (before ++ (bigEndian (itemWidth x) n ++ rest)) (itemSlot (length before) x) ≡ n
-number-there before rest x n i fit =
-    let s : Slot = itemSlot (length before) x in
-    let high : n ≤ s .high = between-high (s .low) (s .high) n (fit-inside (length before) x n i) in
-    let f : List ℕ = bigEndian (itemWidth x) n in
-    let w : 256 ^ s .width ≡ 256 ^ itemWidth x = ap (λ (k : ℕ). 256 ^ k) (slot-width (length before) x .0) in
-    number-at (length before) x (before ++ (f ++ rest)) ∙
-    (ap (λ (l : List ℕ). numberOf (take (itemWidth x) l)) (drop-at before (f ++ rest) (length before) refl) ∙
-    (ap numberOf (take-at f rest (itemWidth x) (big-length (itemWidth x) n)) ∙ number-big (itemWidth x) n (omega arith)))
+-- the numbers in the slots are those of the bytes from the first slot on
+numbers-unpacked : (at : ℕ) (xs : List Item) (bs : List ℕ) → numbersIn (slotsFrom at xs) bs ≡ unpack (widths xs) (drop at bs)
+unfolding slotsFrom numbersIn unpack
+numbers-unpacked at [] bs = refl
+numbers-unpacked at (x ∷ xs) bs =
+    ap (λ (m : ℕ). m ∷ numbersIn (slotsFrom (at + itemWidth x) xs) bs) (number-at at x bs) ∙
+    ap (λ (ms : List ℕ). numberOf (take (itemWidth x) (drop at bs)) ∷ ms)
+    (numbers-unpacked (at + itemWidth x) xs bs ∙ ap (unpack (widths xs)) (sym (drop-drop (itemWidth x) at bs)))
 
-numbers-back : (before : List ℕ) (xs : List Item) (ns : List ℕ) → length ns ≡ length xs → roomy (slotsFrom (length before) xs) ≡ true → allFit xs ns ≡ true
-    → numbersIn (slotsFrom (length before) xs) (before ++ pack xs ns) ≡ ns
-unfolding slotsFrom numbersIn allFit pack
-numbers-back before [] [] l f i = refl
-numbers-back before [] (n ∷ ns) l f i = absurd (omega arith)
-numbers-back before (x ∷ xs) [] l f i = absurd (omega arith)
-numbers-back before (x ∷ xs) (n ∷ ns) l f i =
-    let s : Slot = itemSlot (length before) x in
-    let ss : List Slot = slotsFrom (length before + itemWidth x) xs in
-    let b : List ℕ = bigEndian (itemWidth x) n in
-    let long : length (before ++ b) ≡ length before + itemWidth x = length-append before b ∙ ap (λ (k : ℕ). length before + k) (big-length (itemWidth x) n) in
-    let again : numbersIn ss ((before ++ b) ++ pack xs ns) ≡ ns =
-    ap (λ (k : ℕ). numbersIn (slotsFrom k xs) ((before ++ b) ++ pack xs ns)) (sym long) ∙
-    numbers-back (before ++ b) xs ns (omega arith) (ap (λ (k : ℕ). roomy (slotsFrom k xs)) long ∙ and-right (ltb (s .high) (256 ^ s .width)) (roomy ss) f)
-    (and-right (fits x n) (allFit xs ns) i) in
-    ap (λ (m : ℕ). m ∷ numbersIn ss (before ++ (b ++ pack xs ns)))
-    (number-there before (pack xs ns) x n (and-left (fits x n) (allFit xs ns) i) (ltb-true _ _ (and-left (ltb (s .high) (256 ^ s .width)) (roomy ss) f))) ∙
-    (ap (λ (l : List ℕ). n ∷ numbersIn ss l) (sym (append-assoc before b (pack xs ns))) ∙ ap (λ (ms : List ℕ). n ∷ ms) again)
+-- every number of an item has room in its bytes
+abbrev roomy : List Item → Bool
+roomy [] = true
+roomy (x ∷ xs) = ltb (itemSlot 0 x .high) (256 ^ itemWidth x) && roomy xs
 
-bytes-drop : (n : ℕ) (bs : List ℕ) → Bytes bs → Bytes (drop n bs)
-bytes-drop n bs h i = let e = getD-drop n bs i 0 in omega (arith, h (n + i))
+fitting-roomy : (xs : List Item) (ns : List ℕ) → length ns ≡ length xs → roomy xs ≡ true → allFit xs ns ≡ true → Roomy (widths xs) ns
+unfolding allFit
+fitting-roomy [] [] l f i = tt
+fitting-roomy [] (n ∷ ns) l f i = absurd (omega arith)
+fitting-roomy (x ∷ xs) [] l f i = absurd (omega arith)
+fitting-roomy (x ∷ xs) (n ∷ ns) l f i =
+    let s : Slot = itemSlot 0 x in
+    let high : n ≤ s .high = between-high (s .low) (s .high) n (fit-inside 0 x n (and-left (fits x n) (allFit xs ns) i)) in
+    let room : s .high < 256 ^ itemWidth x = ltb-true _ _ (and-left (ltb (s .high) (256 ^ itemWidth x)) (roomy xs) f) in
+    (omega arith, fitting-roomy xs ns (omega arith) (and-right (ltb (s .high) (256 ^ itemWidth x)) (roomy xs) f) (and-right (fits x n) (allFit xs ns) i))
 
-bytes-take : (n : ℕ) (bs : List ℕ) → Bytes bs → Bytes (take n bs)
-bytes-take n bs h i =
-    ⊎-elim (λ (q : i < n). omega (arith, getD-take n bs i 0 q, h i))
-    (λ (q : n ≤ i).
-    let l : length (take n bs) ≤ i = simp length-take (omega arith) in
-    omega (arith, List·getD-eq-default (take n bs) 0 l))
-    (below-or-not i n)
+numbers-back : (before : List ℕ) (xs : List Item) (ns : List ℕ) (at : ℕ) → length before ≡ at → length ns ≡ length xs → roomy xs ≡ true → allFit xs ns ≡ true
+    → numbersIn (slotsFrom at xs) (before ++ pack (widths xs) ns) ≡ ns
+numbers-back before xs ns at e l f i =
+    let b : List ℕ = pack (widths xs) ns in
+    numbers-unpacked at xs (before ++ b) ∙
+    (ap (unpack (widths xs)) (drop-at before b at e ∙ sym (append-nil b)) ∙ unpack-pack (widths xs) ns [] (fitting-roomy xs ns l f i))
 
-bytes-back : (at : ℕ) (xs : List Item) (bs : List ℕ) → length bs ≡ at + totalWidth xs → Bytes bs → pack xs (numbersIn (slotsFrom at xs) bs) ≡ drop at bs
-unfolding slotsFrom numbersIn pack
-bytes-back at [] bs l h = sym (drop-of-length-le bs (let e : length bs ≤ at = omega arith in e))
-bytes-back at (x ∷ xs) bs l h =
-    let w : ℕ = itemWidth x in
+bytes-back : (at : ℕ) (xs : List Item) (bs : List ℕ) → length bs ≡ at + totalWidth xs → Bytes bs → pack (widths xs) (numbersIn (slotsFrom at xs) bs) ≡ drop at bs
+bytes-back at xs bs l h =
     let d = length-drop at bs in
-    ap (λ (m : ℕ). bigEndian w m ++ pack xs (numbersIn (slotsFrom (at + w) xs) bs)) (number-at at x bs) ∙
-    (ap (λ (t : List ℕ). t ++ pack xs (numbersIn (slotsFrom (at + w) xs) bs))
-    (big-number w (take w (drop at bs)) (length-take-le w (drop at bs) (omega arith)) (bytes-take w (drop at bs) (bytes-drop at bs h))) ∙
-    (ap (λ (t : List ℕ). take w (drop at bs) ++ t) (bytes-back (at + w) xs bs (omega arith) h ∙ sym (drop-drop w at bs)) ∙ take-append-drop w (drop at bs)))
+    ap (pack (widths xs)) (numbers-unpacked at xs bs) ∙
+    (pack-unpack (widths xs) (drop at bs) (omega arith) (bytes-drop at bs h) ∙ take-all (totalWidth xs) (drop at bs) (omega arith))
 
 numbers-read-length : (at : ℕ) (xs : List Item) (bs : List ℕ) → length (numbersIn (slotsFrom at xs) bs) ≡ length xs
-unfolding slotsFrom numbersIn
-numbers-read-length at [] bs = refl
-numbers-read-length at (x ∷ xs) bs = ap suc (numbers-read-length (at + itemWidth x) xs bs)
+numbers-read-length at xs bs = ap length (numbers-unpacked at xs bs) ∙ (unpack-length (widths xs) (drop at bs) ∙ length-map xs itemWidth)
 
 -- ---- what an answer tells
 
@@ -204,9 +182,9 @@ by-reading P bs low whole = after (headerOf bs) refl
     after done e = body (allFit (items (version bs)) (numbersAs (version bs) bs)) e refl
 
 -- ---- the stored form
-slots-roomy : roomy (slotsFrom headerWidth (items current)) ≡ true
-unfolding slotsFrom rangeAt
-slots-roomy = refl
+items-roomy : roomy (items current) ≡ true
+unfolding rangeAt
+items-roomy = refl
 
 header-length : length headerBytes ≡ headerWidth
 header-length = let b = big-length 2 (storedLength current) in omega arith
@@ -223,17 +201,14 @@ begun-headed rest l =
       known = ap (λ (w : ℕ). member w versions) v;
       first = sym v;
       field =
-          ap numberOf (take-at (bigEndian 2 (storedLength current)) rest 2 (big-length 2 (storedLength current))) ∙
-          (number-big 2 (storedLength current) (omega (arith, stored-180)) ∙ sym l);
+          number-front 2 (storedLength current) rest (omega (arith, stored-180)) ∙ sym l;
     }
 
 module _ (r : Record) (v : valid r ≡ true) where
   form-numbers : numbersAs current (storedForm r) ≡ numbersOf (items current) r
   unfolding storedForm
   form-numbers =
-      ap (λ (k : ℕ). numbersIn (slotsFrom k (items current)) (headerBytes ++ packed (items current) r)) (sym header-length) ∙
-      numbers-back headerBytes (items current) (numbersOf (items current) r) (numbers-length (items current) r)
-      (ap (λ (k : ℕ). roomy (slotsFrom k (items current))) header-length ∙ slots-roomy) (numbers-in r v)
+      numbers-back headerBytes (items current) (numbersOf (items current) r) headerWidth header-length (numbers-length (items current) r) items-roomy (numbers-in r v)
 
   form-whole : Whole (storedForm r) r
   unfolding storedForm
@@ -268,18 +243,9 @@ module _ (bs : List ℕ) (r : Record) (w : Whole bs r) where
   whole-form h =
       let v : ℕ = version bs in
       let l : length bs ≡ headerWidth + totalWidth (items v) = w .long ∙ length-items v (w .known) in
-      let d = length-drop 1 bs in
-      let head : bigEndian 2 (storedLength v) ≡ take 2 (drop 1 bs) =
-      ap (bigEndian 2) (sym (w .long) ∙ sym (w .field)) ∙ big-number 2 (take 2 (drop 1 bs)) (length-take-le 2 (drop 1 bs) (omega arith)) (bytes-take 2 (drop 1 bs) (bytes-drop 1 bs h)) in
-      let rest : packed (items v) r ≡ drop 3 bs = ap (pack (items v)) whole-numbers ∙ bytes-back headerWidth (items v) bs l h in
-      ap (λ (u : ℕ). u ∷ (bigEndian 2 (storedLength v) ++ packed (items v) r)) (sym (w .first)) ∙
-      (ap (λ (x : List ℕ). getD bs 0 0 ∷ (x ++ packed (items v) r)) head ∙
-      (ap (λ (x : List ℕ). getD bs 0 0 ∷ (take 2 (drop 1 bs) ++ x)) (rest ∙ sym (drop-drop 2 1 bs)) ∙
-      (ap (λ (x : List ℕ). getD bs 0 0 ∷ x) (take-append-drop 2 (drop 1 bs)) ∙ sym (drop-cons bs 0 0 (omega arith)))))
-
--- bytes below 256, place by place
-all-bytes : (bs : List ℕ) → ((i : ℕ) → i < length bs → getD bs i 0 < 256) → Bytes bs
-all-bytes bs h i = ⊎-elim (h i) (λ (q : length bs ≤ i). omega (arith, List·getD-eq-default bs 0 q)) (below-or-not i (length bs))
+      let rest : packed (items v) r ≡ drop 3 bs = ap (pack (widths (items v))) whole-numbers ∙ bytes-back headerWidth (items v) bs l h in
+      ap (λ (x : List ℕ). v ∷ (bigEndian 2 (storedLength v) ++ x)) rest ∙
+      (ap (λ (n : ℕ). v ∷ (bigEndian 2 n ++ drop 3 bs)) (sym (w .long)) ∙ header-back bs v (omega arith) (w .first) (w .field) h)
 
 -- writing what was read from bytes of the version that is written gives the bytes
 pub written-read : (bs : List ℕ) (r : Record) (o : List ℕ) → ((i : ℕ) → i < length bs → getD bs i 0 < 256) → length bs ≡ storedLength current → storedLength current ≤ length o
@@ -376,25 +342,13 @@ old-no-alarm bs l =
 abbrev pub upgraded : List ℕ → List ℕ
 upgraded bs = headerBytes ++ (take (totalWidth scalarItems) (drop headerWidth bs) ++ (0 ∷ 0 ∷ 0 ∷ drop (parametersAt 1) bs))
 
-drop-take : (w n : ℕ) (l : List ℕ) → drop w (take (w + n) l) ≡ take n (drop w l)
-drop-take zero n l = let e : 0 + n ≡ n = omega arith in ap (λ (k : ℕ). take k l) e
-drop-take (suc w) n [] = let e : suc w + n ≡ suc (w + n) = omega arith in ap (λ (k : ℕ). drop (suc w) (take k [])) e ∙ sym (take-nil n)
-drop-take (suc w) n (a ∷ l) = let e : suc w + n ≡ suc (w + n) = omega arith in ap (λ (k : ℕ). drop (suc w) (take k (a ∷ l))) e ∙ drop-take w n l
-
 -- numbers of the same items in the same bytes, wherever these begin
 numbers-same : (xs : List Item) (at j : ℕ) (bs cs : List ℕ) → take (totalWidth xs) (drop at bs) ≡ take (totalWidth xs) (drop j cs)
     → numbersIn (slotsFrom at xs) bs ≡ numbersIn (slotsFrom j xs) cs
-unfolding slotsFrom numbersIn
-numbers-same [] at j bs cs e = refl
-numbers-same (x ∷ xs) at j bs cs e =
-    let w : ℕ = itemWidth x in
-    let n : ℕ = totalWidth xs in
-    let front : (k : ℕ) (l : List ℕ) → numberAt l (itemSlot k x) ≡ numberOf (take w (take (w + n) (drop k l))) =
-    λ k l. number-at k x l ∙ ap numberOf (sym (take-take w (w + n) (drop k l) (omega arith))) in
-    let back : (k : ℕ) (l : List ℕ) → take n (drop (k + w) l) ≡ drop w (take (w + n) (drop k l)) =
-    λ k l. ap (take n) (sym (drop-drop w k l)) ∙ sym (drop-take w n (drop k l)) in
-    ap (λ (m : ℕ). m ∷ numbersIn (slotsFrom (at + w) xs) bs) (front at bs ∙ (ap (λ (l : List ℕ). numberOf (take w l)) e ∙ sym (front j cs))) ∙
-    ap (λ (ms : List ℕ). numberAt cs (itemSlot j x) ∷ ms) (numbers-same xs (at + w) (j + w) bs cs (back at bs ∙ (ap (drop w) e ∙ sym (back j cs))))
+numbers-same xs at j bs cs e =
+    let front : (k : ℕ) (l : List ℕ) → numbersIn (slotsFrom k xs) l ≡ unpack (widths xs) (take (totalWidth xs) (drop k l)) =
+    λ k l. numbers-unpacked k xs l ∙ sym (unpack-front (widths xs) (drop k l)) in
+    front at bs ∙ (ap (unpack (widths xs)) e ∙ sym (front j cs))
 
 taken-same : (xs : List Item) (at j : ℕ) (bs cs : List ℕ) (r : Record) → take (totalWidth xs) (drop at bs) ≡ take (totalWidth xs) (drop j cs)
     → takenFrom at xs bs r ≡ takenFrom j xs cs r

@@ -16,9 +16,10 @@ use Rattle.state.specs.Parameter.{parameterCount}
 use Rattle.state.specs.Field.{phaseNumber}
 use Rattle.state.specs.Valid.{valid}
 use Rattle.stored.specs.declared.Slot.{Slot}
-use Rattle.stored.specs.Layout.{Item, alone, together, bitMapped, parameterItems, current, scalarsOf, items, headerWidth, itemWidth, totalWidth, parametersAt, itemSlot, slotsFrom, scalarSlots, noSlot, alarmsStored, itemNumber, numbersOf, bits, flagFields}
+use Rattle.stored.specs.Layout.{Item, alone, together, bitMapped, parameterItems, current, scalarsOf, items, headerWidth, itemWidth, widths, totalWidth, parametersAt, itemSlot, slotsFrom, scalarSlots, noSlot, alarmsStored, itemNumber, numbersOf, bits, flagFields}
 use Rattle.stored.specs.Form.{K, done, bigEndian, pack, packed, stored, storedLength, headerBytes, storedForm, writeOf}
 use Rattle.stored.proofs.Bytes.{big-length, sets-append, sets-next, sets-over, part-filled}
+use Rattle.stored.proofs.Packing.{pack-length, pack-append}
 use Rattle.stored.proofs.Slots.{pair, valueSlot, levelSlot, parameters-width, stored-180, Others, last-place}
 use Rattle.stored.proofs.Versions.{lengthOf}
 use Rattle.stored.proofs.Alarms.{stored-sum}
@@ -32,30 +33,15 @@ pub numbers-length : (xs : List Item) (r : Record) → length (numbersOf xs r) �
 unfolding numbersOf
 numbers-length xs r = length-map xs (itemNumber r)
 
-pub pack-length : (xs : List Item) (ns : List ℕ) → length ns ≡ length xs → length (pack xs ns) ≡ totalWidth xs
-unfolding pack
-pack-length [] ns e = refl
-pack-length (x ∷ xs) [] e = absurd (omega arith)
-pack-length (x ∷ xs) (n ∷ ns) e =
-    let h = pack-length xs ns (omega arith) in
-    let b = big-length (itemWidth x) n in
-    length-append (bigEndian (itemWidth x) n) (pack xs ns) ∙ omega arith
-
-pub pack-append : (xs ys : List Item) (ns ms : List ℕ) → length ns ≡ length xs → pack (xs ++ ys) (ns ++ ms) ≡ pack xs ns ++ pack ys ms
-unfolding pack
-pack-append [] ys [] ms e = refl
-pack-append [] ys (n ∷ ns) ms e = absurd (omega arith)
-pack-append (x ∷ xs) ys [] ms e = absurd (omega arith)
-pack-append (x ∷ xs) ys (n ∷ ns) ms e =
-    ap (λ (l : List ℕ). bigEndian (itemWidth x) n ++ l) (pack-append xs ys ns ms (omega arith)) ∙ sym (append-assoc (bigEndian (itemWidth x) n) (pack xs ns) (pack ys ms))
-
 pub packed-length : (xs : List Item) (r : Record) → length (packed xs r) ≡ totalWidth xs
-packed-length xs r = pack-length xs (numbersOf xs r) (numbers-length xs r)
+packed-length xs r = pack-length (widths xs) (numbersOf xs r) (numbers-length xs r ∙ sym (length-map xs itemWidth))
 
 pub packed-append : (xs ys : List Item) (r : Record) → packed (xs ++ ys) r ≡ packed xs r ++ packed ys r
 unfolding numbersOf
 packed-append xs ys r =
-    ap (pack (xs ++ ys)) (map-append (itemNumber r) xs ys) ∙ pack-append xs ys (map (itemNumber r) xs) (map (itemNumber r) ys) (length-map xs (itemNumber r))
+    ap (λ (ws : List ℕ). pack ws (map (itemNumber r) (xs ++ ys))) (map-append itemWidth xs ys) ∙
+    (ap (pack (widths xs ++ widths ys)) (map-append (itemNumber r) xs ys) ∙
+    pack-append (widths xs) (widths ys) (map (itemNumber r) xs) (map (itemNumber r) ys) (length-map xs (itemNumber r) ∙ sym (length-map xs itemWidth)))
 
 -- ---- one number
 slot-stored : (at : ℕ) (x : Item) (n : ℕ) (o : List ℕ) → stored (itemSlot at x) n o ≡ sets o at (bigEndian (itemWidth x) n)
@@ -64,8 +50,8 @@ slot-stored at (together fs) n o = refl
 slot-stored at bitMapped n o = refl
 
 -- the number at a place, behind those before it
-store-next : (at : ℕ) (xs : List Item) (ns : List ℕ) (k : ℕ) (o z : List ℕ) → k < length xs → length ns ≡ length xs → z ≡ sets o at (pack (take k xs) (take k ns))
-    → stored (getD (slotsFrom at xs) k noSlot) (getD ns k 0) z ≡ sets o at (pack (take (suc k) xs) (take (suc k) ns))
+store-next : (at : ℕ) (xs : List Item) (ns : List ℕ) (k : ℕ) (o z : List ℕ) → k < length xs → length ns ≡ length xs → z ≡ sets o at (pack (widths (take k xs)) (take k ns))
+    → stored (getD (slotsFrom at xs) k noSlot) (getD ns k 0) z ≡ sets o at (pack (widths (take (suc k) xs)) (take (suc k) ns))
 unfolding slotsFrom pack
 store-next at [] ns k o z h l e = absurd (not-suc-le-zero h)
 store-next at (x ∷ xs) [] k o z h l e = absurd (omega arith)
@@ -76,8 +62,8 @@ store-next at (x ∷ xs) (n ∷ ns) (suc k) o z h l e =
     let f : List ℕ = bigEndian (itemWidth x) n in
     let back : (g : List ℕ) → sets (sets o at f) (at + itemWidth x) g ≡ sets o at (f ++ g) =
     λ g. ap (λ (j : ℕ). sets (sets o at f) (at + j) g) (sym w) ∙ sets-append o at f g in
-    store-next (at + itemWidth x) xs ns k (sets o at f) z (le-of-suc-le-suc h) (omega arith) (e ∙ sym (back (pack (take k xs) (take k ns))))
-    ∙ back (pack (take (suc k) xs) (take (suc k) ns))
+    store-next (at + itemWidth x) xs ns k (sets o at f) z (le-of-suc-le-suc h) (omega arith) (e ∙ sym (back (pack (widths (take k xs)) (take k ns))))
+    ∙ back (pack (widths (take (suc k) xs)) (take (suc k) ns))
 
 module _ (s : Slot) (n : ℕ) (o ys : List ℕ) (room : s .at + s .width ≤ length o) (filled : ys ≡ bigEndian (length (take (s .at + s .width - s .at) (drop (s .at) o))) n) where
   put-is : putMid (s .at) (s .at + s .width - s .at) o ys ≡ stored s n o
@@ -88,7 +74,7 @@ module _ (s : Slot) (n : ℕ) (o ys : List ℕ) (room : s .at + s .width ≤ len
 
 -- ---- the numbers before the parameters'
 abbrev pub Scalars : Record → ℕ → List ℕ → List ℕ → Type 0
-Scalars r k o z = z ≡ sets o headerWidth (pack (take k (scalarsOf current)) (take k (numbersOf (scalarsOf current) r)))
+Scalars r k o z = z ≡ sets o headerWidth (pack (widths (take k (scalarsOf current))) (take k (numbersOf (scalarsOf current) r)))
 
 pub scalars-none : (r : Record) (o : List ℕ) → Scalars r 0 o o
 unfolding pack
@@ -100,12 +86,12 @@ scalars-more r k n s o y z h e i q p =
     p ∙ (ap (λ (m : ℕ). stored s m y) e ∙
     (ap (λ (t : Slot). stored t (getD (numbersOf (scalarsOf current) r) k 0) y) i ∙
     (store-next headerWidth (scalarsOf current) (numbersOf (scalarsOf current) r) k o y h (numbers-length (scalarsOf current) r) q ∙
-    ap (λ (j : ℕ). sets o headerWidth (pack (take j (scalarsOf current)) (take j (numbersOf (scalarsOf current) r)))) (sym (add-one k)))))
+    ap (λ (j : ℕ). sets o headerWidth (pack (widths (take j (scalarsOf current))) (take j (numbersOf (scalarsOf current) r)))) (sym (add-one k)))))
 
 pub scalars-all : (r : Record) (k : ℕ) (o z : List ℕ) → k ≤ length (scalarsOf current) → length (scalarsOf current) ≤ k → Scalars r k o z → z ≡ sets o headerWidth (packed (scalarsOf current) r)
 unfolding numbersOf
 scalars-all r k o z l h e =
-    let q : k ≡ length (scalarsOf current) = omega arith in e ∙ ap (λ (j : ℕ). sets o headerWidth (pack (take j (scalarsOf current)) (take j (numbersOf (scalarsOf current) r)))) q
+    let q : k ≡ length (scalarsOf current) = omega arith in e ∙ ap (λ (j : ℕ). sets o headerWidth (pack (widths (take j (scalarsOf current))) (take j (numbersOf (scalarsOf current) r)))) q
 
 -- ---- the parameters'
 abbrev pub Parameters : Record → ℕ → List ℕ → List ℕ → Type 0

@@ -24,7 +24,7 @@ use Rattle.stored.specs.declared.Number.{Number}
 use Rattle.stored.specs.declared.Number.the-variants as number
 use Rattle.stored.specs.declared.Parameter.{Parameter}
 use Rattle.stored.specs.declared.Parameter.the-variants as parameter
-use Rattle.stored.specs.Layout.{Item, alone, bitMapped, versions, current, items, itemWidth, totalWidth, headerWidth, parametersAt, itemSlot, slotsFrom, unusedBits, fits, numbersOf, putAll}
+use Rattle.stored.specs.Layout.{Item, alone, bitMapped, versions, current, items, widths, totalWidth, headerWidth, parametersAt, itemSlot, slotsFrom, unusedBits, fits, numbersOf, putAll}
 
 -- ---- the code's answers as document 01 numbers them: K1 to K6, or done
 pub data Outcome : Type 0 where
@@ -62,15 +62,20 @@ numberFrom a (b ∷ bs) = numberFrom (a * 256 + b) bs
 abbrev pub numberOf : List ℕ → ℕ
 numberOf bs = numberFrom 0 bs
 
--- numbers one behind the other, each in its item's width
-unfoldable pub pack : List Item → List ℕ → List ℕ
+-- numbers one behind the other, each in so many bytes as its width says
+unfoldable pub pack : List ℕ → List ℕ → List ℕ
 pack [] ns = []
-pack (x ∷ xs) [] = []
-pack (x ∷ xs) (n ∷ ns) = bigEndian (itemWidth x) n ++ pack xs ns
+pack (w ∷ ws) [] = []
+pack (w ∷ ws) (n ∷ ns) = bigEndian w n ++ pack ws ns
+
+-- and back: for each width the number of so many bytes
+unfoldable pub unpack : List ℕ → List ℕ → List ℕ
+unpack [] bs = []
+unpack (w ∷ ws) bs = numberOf (take w bs) ∷ unpack ws (drop w bs)
 
 -- the bytes of the numbers that a record has for some items
 abbrev pub packed : List Item → Record → List ℕ
-packed xs r = pack xs (numbersOf xs r)
+packed xs r = pack (widths xs) (numbersOf xs r)
 
 -- the numbers in the slots of stored bytes
 abbrev pub numberAt : List ℕ → Slot → ℕ

@@ -58,9 +58,15 @@ itemWidth (alone w f) = w
 itemWidth (together fs) = 1
 itemWidth bitMapped = 3
 
+abbrev pub widths : List Item → List ℕ
+widths xs = map itemWidth xs
+
+abbrev pub total : List ℕ → ℕ
+total [] = 0
+total (w ∷ ws) = w + total ws
+
 abbrev pub totalWidth : List Item → ℕ
-totalWidth [] = 0
-totalWidth (x ∷ xs) = itemWidth x + totalWidth xs
+totalWidth xs = total (widths xs)
 
 abbrev pub slotOf : ℕ → ℕ → Range → Slot
 slotOf a w g = record { at = a; width = w; low = g .low; high = g .high }

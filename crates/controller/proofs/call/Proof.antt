@@ -1,18 +1,16 @@
--- `controller::call` meets its contract: one law for each silence, and one for the answer. Assumes nothing.
+-- `controller::call` meets its contract: one law for the silences, and one for the answer. Assumes nothing.
 use native.Mathlib.Omega.{arith}
-use Rattle.controller.proofs.Steps.{calling, text-within}
+use Rattle.controller.proofs.Hearing.{text-within}
+use Rattle.controller.proofs.Steps.{calling}
 use borrow.Author.Needs.{needs}
 use Rattle.controller.proofs.call.Statement.{statement}
 use Rattle.controller.proofs.call.Tie as tie
 
 add-end : tie.Need-add-end
-add-end c = omega (arith, text-within _ _ _ _ _ (c .before .before .before .before .before .address .ensures) (c .before .before .before .address2 .given .1))
+add-end c = omega (arith, text-within _ _ _ _ _ _ _ (c .before .before .before .hear .ensures) (c .before .n .given .1))
 
 part-reply-to-end : tie.Need-part-reply-to-end
-part-reply-to-end c = omega (arith, text-within _ _ _ _ _ (c .before .before .before .before .before .address .ensures) (c .before .before .before .address2 .given .1))
-
-returns-5 : tie.Need-returns-5
-returns-5 c = search calling
+part-reply-to-end c = omega (arith, text-within _ _ _ _ _ _ _ (c .before .before .before .hear .ensures) (c .before .n .given .1))
 
 pub call-spec : {M : Type 1} → statement M
 call-spec =
@@ -20,15 +18,9 @@ call-spec =
     (tie.spec
     (λ c κs. search needs)
     (λ c κs. search needs)
-    (λ c. search calling)
-    (λ c κs. search needs)
-    (λ c. search calling)
-    (λ c κs. search needs)
     (λ c. search needs)
     (λ c κs. search needs)
     (λ c. search needs)
-    (λ c κs. search needs)
-    (λ c. search calling)
     add-end
     (λ c. search needs)
     (λ c. search needs)
@@ -37,4 +29,4 @@ call-spec =
     (λ c κs. search needs)
     (λ c. search calling)
     (λ c. search needs)
-    returns-5)
+    (λ c. search calling))

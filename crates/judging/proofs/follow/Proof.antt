@@ -14,7 +14,9 @@ abbrev μ-loop : tie.MeasureT-loop
 μ-loop s address access most known₀ at₀ passed₀ known at passed = length s - at
 
 loop-again : tie.Need-loop-again Inv-loop μ-loop
-loop-again c = search one-passed
+loop-again c =
+    let p = c .before .before .before .before .before .before .before .before .before .before .before .before in
+    one-passed _ _ _ _ _ _ _ (p .before .loop .inv) _ (c .before .before .before .before .before .before .before .before .before .before .before .exchange-at .ensures) _ (c .before .before .before .before .before .before .before .before .before .spans .given .1) _ (c .before .before .before .before .before .before .asks-batch .ensures) (c .before .before .before .before .before .if1 .left) _ (c .before .before .learn .ensures) (p .loop-test .taken) (c .if2 .left)
 
 pub follow-spec : {M : Type 1} → statement M
 follow-spec =
@@ -32,6 +34,12 @@ follow-spec =
     (λ c κs. search needs)
     (λ c. search following)
     (λ c. search needs)
+    (λ c. search (spans-inside, needs))
+    (λ c. search (spans-inside, needs))
+    (λ c. search (spans-inside, needs))
+    (λ c κs. search needs)
+    (λ c κs. search needs)
+    (λ c. search following)
     (λ c. search (spans-inside, needs))
     (λ c. search (spans-inside, needs))
     (λ c. search (spans-inside, needs))

@@ -1,19 +1,9 @@
--- `judging::judge` meets its contract: each answer by a law of `Loop` for what was read and followed, and demand 3 by the theorem. Assumes
--- nothing.
+-- `judging::judge` meets its contract: each answer by a law of `Loop` for what was read and followed, and demand 3 by the theorem. Assumes nothing.
 use Rattle.judging.proofs.Loop.{judging, read-formed}
 use Rattle.judging.proofs.Theorem.{right-so}
 use borrow.Author.Needs.{needs}
 use Rattle.judging.proofs.judge.Statement.{statement}
 use Rattle.judging.proofs.judge.Tie as tie
-
-returns : tie.Need-returns
-returns c = right-so _ _ (search judging)
-
-returns-2 : tie.Need-returns-2
-returns-2 c = right-so _ _ (search judging)
-
-returns-3 : tie.Need-returns-3
-returns-3 c = right-so _ _ (search judging)
 
 pub judge-spec : {M : Type 1} → statement M
 judge-spec =
@@ -23,7 +13,9 @@ judge-spec =
     (λ c. search needs)
     (λ c. search needs)
     (λ c κs. search read-formed)
-    returns
     (λ c. search needs)
-    returns-2
-    returns-3)
+    (λ c. right-so _ _ (search judging))
+    (λ c. search needs)
+    (λ c. right-so _ _ (search judging))
+    (λ c. right-so _ _ (search judging))
+    (λ c. right-so _ _ (search judging)))

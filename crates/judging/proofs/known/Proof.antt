@@ -1,19 +1,9 @@
--- `judging::known` meets its contract: each answer by a law of `Loop` for what was read and followed, and the statement by the theorem.
--- Assumes nothing.
+-- `judging::known` meets its contract: each answer by a law of `Loop` for what was read and followed, and the statement by the theorem. Assumes nothing.
 use Rattle.judging.proofs.Loop.{knowing, read-formed}
 use Rattle.judging.proofs.Theorem.{known-so}
 use borrow.Author.Needs.{needs}
 use Rattle.judging.proofs.known.Statement.{statement}
 use Rattle.judging.proofs.known.Tie as tie
-
-returns : tie.Need-returns
-returns c = known-so _ _ _ (search knowing)
-
-returns-2 : tie.Need-returns-2
-returns-2 c = known-so _ _ _ (search knowing)
-
-returns-3 : tie.Need-returns-3
-returns-3 c = known-so _ _ _ (search knowing)
 
 pub known-spec : {M : Type 1} → statement M
 known-spec =
@@ -26,6 +16,12 @@ known-spec =
     (λ c κs. search read-formed)
     (λ c. search needs)
     (λ c κs. search needs)
-    returns
-    returns-2
-    returns-3)
+    (λ c. known-so _ _ _ (search knowing))
+    (λ c κs. search needs)
+    (λ c. known-so _ _ _ (search knowing))
+    (λ c. search needs)
+    (λ c κs. search needs)
+    (λ c. known-so _ _ _ (search knowing))
+    (λ c κs. search needs)
+    (λ c. known-so _ _ _ (search knowing))
+    (λ c. known-so _ _ _ (search knowing)))

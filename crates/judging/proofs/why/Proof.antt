@@ -1,19 +1,9 @@
--- `judging::why` meets its contract: each answer by a law of `Loop` for what was read and followed, and the statement by the theorem. Assumes
--- nothing.
+-- `judging::why` meets its contract: each answer by a law of `Loop` for what was read and followed, and the statement by the theorem. Assumes nothing.
 use Rattle.judging.proofs.Loop.{explaining, read-formed, breaks}
 use Rattle.judging.proofs.Theorem.{why-so}
 use borrow.Author.Needs.{needs}
 use Rattle.judging.proofs.why.Statement.{statement}
 use Rattle.judging.proofs.why.Tie as tie
-
-returns : tie.Need-returns
-returns c = why-so _ _ (search explaining)
-
-returns-2 : tie.Need-returns-2
-returns-2 c = why-so _ _ (search explaining)
-
-returns-3 : tie.Need-returns-3
-returns-3 c = why-so _ _ (search needs)
 
 pub why-spec : {M : Type 1} → statement M
 why-spec =
@@ -23,7 +13,9 @@ why-spec =
     (λ c. search needs)
     (λ c. search needs)
     (λ c κs. search read-formed)
-    returns
     (λ c κs. search breaks)
-    returns-2
-    returns-3)
+    (λ c. why-so _ _ (search needs))
+    (λ c. search needs)
+    (λ c. why-so _ _ (search explaining))
+    (λ c. why-so _ _ (search explaining))
+    (λ c. why-so _ _ (search explaining)))

@@ -48,7 +48,7 @@ use Rattle.state.proofs.Record.after as after
 use Rattle.state.proofs.Record.after.Symbol as after-symbol
 use Rattle.state.proofs.Record.after.Symbol.{name as #state·Record·after}
 use Rattle.state.proofs.Record.after.Met as after-met
-use Rattle.kept.proofs.InPlace.{recordVal, IsRecord, record-typed, record-owned, record-opens, record-closes}
+use Rattle.kept.proofs.InPlace.{aRecord, recordVal, IsRecord, record-typed, record-owned, kept-opens, kept-closes}
 use Rattle.kept.proofs.Values.{eventVal, IsEvent, event-typed, event-owned}
 use Rattle.kept.proofs.Locals.{frees-all}
 use Rattle.kept.proofs.event.Key.{name as #kept·event}
@@ -118,7 +118,7 @@ module _ {M : Type 1} (𝓤 : URA M) (H : Heap 𝓤) (A : Atoms 𝓤) (W : Given
         keep ! (10 ∷ 11 ∷ 12 ∷ 8 ∷ 9 ∷ 6 ∷ 7 ∷ 4 ∷ 5 ∷ 2 ∷ 3 ∷ 0 ∷ 1 ∷ []) $
         -- [obs; the borrow; the token; the locals from 3 on]
         pass1 ! (init ! 5 refl (tt, tt)) $ pass1 ! (init ! 7 refl (event-typed 𝓤 H A W event is-event .0)) $ pass0 ! $
-        record-opens ! tt r b o (λ is-record.
+        kept-opens aRecord ! tt r b o (λ is-record.
         -- [the record's cell; the open borrow; obs; auth; the locals from 4 on]
         assigns ! (of-opd ! (load ! (from ! (hop ! (look ! 6 refl) (stop !))) (look-raw ! 0 refl))) (from ! (stop !)) (init ! 12 refl (record-typed 𝓤 H A W r is-record .0)) $
         use0 W (raw (After 𝓤 H A at-mem run .pre to-after)) (goes-in is-record is-event) $
@@ -130,7 +130,7 @@ module _ {M : Type 1} (𝓤 : URA M) (H : Heap 𝓤) (A : Atoms 𝓤) (W : Given
         rewrite ! 10 (λ (u : Val). ‵ (fat fullShare RecordLaws.mir l₃ 0 u)) (ap only (StructLaws.tells RecordType.the-type RecordLaws.the-laws s _ is)) refl $
         assigns ! (of-opd ! (load ! (from ! (stop !)) (look ! 10 refl))) (from ! (hop ! (look ! 6 refl) (stop !))) (store-raw ! 0 refl (record-typed 𝓤 H A W s (is-result s v is) .0)) $
         assigns ! (of-opd ! (unit-lit !)) (from ! (stop !)) (init ! 4 refl (tt, tt)) $
-        record-closes ! tt s b o (is-result s v is) $
+        kept-closes aRecord ! tt s b o (is-result s v is) $
         -- [obs; the borrow; the token; the locals from 3 on]
         returns ! (look ! 3 refl) $ forget ! 3 refl $ forget ! 5 refl $ forget ! 7 refl $ forget ! 9 refl $ forget ! 11 refl $
         frees-all ! (Left s) _ $ by ! (exits s e is-event)))))))))))

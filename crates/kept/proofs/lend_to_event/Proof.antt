@@ -42,17 +42,17 @@ use Rattle.state.proofs.Record as RecordType
 use Rattle.state.proofs.Record.Laws as RecordLaws
 use Rattle.state.proofs.Event as EventType
 use Rattle.state.proofs.Event.Laws as EventLaws
-use Rattle.kept.proofs.InPlace.{recordVal, IsRecord, record-typed, record-owned, lentRef, Lent, record-lends, record-back}
+use Rattle.kept.proofs.InPlace.{aRecord, recordVal, IsRecord, record-typed, record-owned, lentRef, Lent, kept-lends, kept-back}
 use Rattle.kept.proofs.Values.{eventVal, IsEvent, event-typed, event-owned}
 use Rattle.kept.proofs.Locals.{frees-all}
 use Rattle.kept.proofs.event as borrower
 use Rattle.kept.proofs.event.Symbol as borrower-symbol
 use Rattle.kept.proofs.event.Symbol.{name as #kept·event}
 use Rattle.kept.proofs.event.Met as borrower-met
-use Rattle.kept.proofs.lend_to_event.Key.{name as #kept·lend_to_event}
 use Rattle.kept.proofs.lend_to_event as lender
 use Rattle.kept.proofs.lend_to_event.Statement as stated
 use Rattle.kept.proofs.lend_to_event.Code as code
+use Rattle.kept.proofs.lend_to_event.Key.{name as #kept·lend_to_event}
 
 abbrev Arguments : Type 0
 Arguments = Record × (Event × Unit {0})
@@ -82,14 +82,14 @@ module _ {M : Type 1} (𝓤 : URA M) (H : Heap 𝓤) (A : Atoms 𝓤) (W : Given
 
   module _ (α : ℕ) (γ : GName) (l : ℕ) where
     abbrev passed : RefT Record × (Event × Unit {0})
-    passed = (lentRef γ held l, (happens, tt))
+    passed = (lentRef aRecord γ held l, (happens, tt))
 
     abbrev to-borrower : Borrower 𝓤 H A at-mem run .Ghost
     to-borrower = (((α ∷ [], tt), (fullShare, tt), tt, passed, (vptr l 0 ∷ [], (eventVal happens ∷ [], tt))), tt)
 
-    goes-in : ent 𝓤 (⋆ 𝓤 H A (‵ (flft (α ∷ []) fullShare) ∷ ‵ (Lent α γ held l) ∷ [])) (Borrower 𝓤 H A at-mem run .pre to-borrower)
+    goes-in : ent 𝓤 (⋆ 𝓤 H A (‵ (flft (α ∷ []) fullShare) ∷ ‵ (Lent aRecord α γ held l) ∷ [])) (Borrower 𝓤 H A at-mem run .pre to-borrower)
     goes-in =
-        qed W (‵ (flft (α ∷ []) fullShare) ∷ ‵ (Lent α γ held l) ∷ []) ∵ nothing ! $ event-owned ! happens is-event $ join ! $ move ! (2 ∷ 0 ∷ []) $ join ! $
+        qed W (‵ (flft (α ∷ []) fullShare) ∷ ‵ (Lent aRecord α γ held l) ∷ []) ∵ nothing ! $ event-owned ! happens is-event $ join ! $ move ! (2 ∷ 0 ∷ []) $ join ! $
         nothing ! $ move ! (2 ∷ 0 ∷ []) $ join ! $ join ! $ frame ! $ done !
 
   -- ---- the exit
@@ -109,7 +109,7 @@ module _ {M : Type 1} (𝓤 : URA M) (H : Heap 𝓤) (A : Atoms 𝓤) (W : Given
         -- [the locals]
         assigns ! (of-opd ! (load ! (from ! (stop !)) (look ! 2 refl))) (from ! (stop !)) (init ! 6 refl (record-typed 𝓤 H A W held is-held .0)) $
         assigns ! (addr ! (from ! (stop !))) (from ! (stop !)) (init ! 10 refl (tt, tt)) $
-        move ! (6 ∷ []) $ record-lends ! tt held l₃ is-held (λ α γ.
+        move ! (6 ∷ []) $ kept-lends aRecord ! tt held l₃ is-held (λ α γ.
         -- [the lent record; the way back; the lifetime's token; the locals from 3 on]
         move ! (2 ∷ 0 ∷ []) $ use2 W (raw (Borrower 𝓤 H A at-mem run .pre (to-borrower α γ l₃))) (goes-in α γ l₃) $
         -- [what `event` asks; the way back; the locals from 2 on]
@@ -120,7 +120,7 @@ module _ {M : Type 1} (𝓤 : URA M) (H : Heap 𝓤) (A : Atoms 𝓤) (W : Given
         peeks ! unit (Is unit) (shows 𝓤 H A unit) u (v ∷ []) (λ is. drop ! $ split ! $
         -- [the lifetime's token; true; the record's last value; the way back; the locals from 4 on]
         land ! (from ! (stop !)) (init ! 11 refl (nothing-lawful 𝓤 H A W .typed u (v ∷ []) is .0)) $
-        move ! (0 ∷ 3 ∷ 2 ∷ []) $ record-back ! tt (ws .0) l₃ (λ is-left.
+        move ! (0 ∷ 3 ∷ 2 ∷ []) $ kept-back aRecord ! tt (ws .0) l₃ (λ is-left.
         -- [the record's cell; true; the locals from 2 on]
         assigns ! (of-opd ! (load ! (from ! (stop !)) (look ! 0 refl))) (from ! (stop !)) (init ! 2 refl (record-typed 𝓤 H A W (ws .0) is-left .0)) $
         returns ! (look ! 2 refl) $ forget ! 0 refl $ forget ! 2 refl $ forget ! 4 refl $ forget ! 6 refl $ forget ! 9 refl $ forget ! 11 refl $

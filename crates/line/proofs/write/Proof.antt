@@ -1,7 +1,7 @@
 -- `line::write` meets its contract: in each arm what is written is the line of its answer. Assumes nothing.
 use native.Mathlib.Omega.{arith}
-use borrow.Author.Needs.{needs}
 use Rattle.line.proofs.Laws.{labelled-high, refutedWord, written-refuted, writing}
+use borrow.Author.Needs.{needs}
 use Rattle.line.proofs.write.Statement.{statement}
 use Rattle.line.proofs.write.Tie as tie
 
@@ -31,10 +31,15 @@ write-spec =
     (λ c. search needs)
     (λ c κs. search needs)
     (λ c. search needs)
+    (λ c. search needs)
+    (λ c κs. search needs)
+    (λ c. search needs)
     (λ c κs. search needs)
     (λ c. search needs)
     (λ c. search (writing, needs))
     (λ c. search needs)
     returns-3
+    (λ c. search needs)
+    (λ c. search (writing, needs))
     (λ c. search needs)
     (λ c. search (writing, needs)))

@@ -1,0 +1,4 @@
+pub mod Batches
+pub mod Shift
+pub mod Validity
+pub mod Theorems

@@ -1,0 +1,3 @@
+pub mod Banked
+pub mod Steps
+pub mod Worked

@@ -1,0 +1,3 @@
+pub mod StoredBank
+pub mod Steps
+pub mod Worked
