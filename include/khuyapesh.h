@@ -1,21 +1,21 @@
-/* The proved blending controller, with or without a bank of finished batches, panel, stored forms, host side, drum
- * change, judge, and what a recording tells of the record, over bytes and numbers. For C99 and C++.
+/* The proved blending controller, with or without a bank of finished batches, panel, stored forms, week totals, host side,
+ * drum change, judge, and what a recording tells of the record, over bytes and numbers. For C99 and C++.
  *
  * Every function takes any bytes, lengths and numbers. What no proof can give is asked of the pointers:
  *     none is null, also where the length beside it is 0;
- *     as many bytes (of sets: numbers) as that length says are there to be read, and to be written where the pointer is not
- *     const;
+ *     as many bytes (of sets, and of the lists, sums and counts of totals: numbers) as that length says are there to be
+ *     read, and to be written where the pointer is not const;
  *     what is written overlaps nothing else of the same call, and no other thread touches it meanwhile;
  *     what is only read, no other thread writes meanwhile;
- *     what points to a size_t or a uint32_t is aligned as that is.
+ *     what points to a size_t, a uint32_t or a uint64_t is aligned as that is.
  *
  * A call takes under KHUYAPESH_STACK bytes of stack (khuyapesh_board, which holds all records while it works, under
  * KHUYAPESH_BOARD_STACK; khuyapesh_known, khuyapesh_learn and khuyapesh_why, which hold several records' sets, under
- * KHUYAPESH_TELL_STACK; khuyapesh_banked_call, khuyapesh_banked_several and khuyapesh_bank, which hold a bank, under
- * KHUYAPESH_BANK_STACK) and no heap, writes no data but what is lent, and needs nothing outside of the library but
- * memcpy, memmove, memset or memcmp. So every function is re-entrant, and threads may call at the same time, each over
- * buffers of its own. (A dynamic linker that looks up memcpy when it is first called takes stack of its own then;
- * linking with -z now, or statically, avoids that.)
+ * KHUYAPESH_TELL_STACK; khuyapesh_banked_call, khuyapesh_banked_several, khuyapesh_bank, khuyapesh_bank_totals and
+ * khuyapesh_totals_text, which hold a bank, under KHUYAPESH_BANK_STACK) and no heap, writes no data but what is lent,
+ * and needs nothing outside of the library but memcpy, memmove, memset or memcmp. So every function is re-entrant, and
+ * threads may call at the same time, each over buffers of its own. (A dynamic linker that looks up memcpy when it is
+ * first called takes stack of its own then; linking with -z now, or statically, avoids that.)
  *
  * A record is lent in its stored form. A silence or refusal leaves every lent byte as it was, unless said otherwise. */
 #ifndef KHUYAPESH_H
@@ -30,8 +30,8 @@
 #define KHUYAPESH_BANK_STACK 24576
 
 /* Bytes of a stored record as it is written, which is version 2; of the longest frame, and the least room for a reply, a
- * built frame or a text that is read; of the longest recording. Stored bytes of version 1 have 177 and are only read: they
- * hold no alarms, and the record that is read from them has none on. */
+ * built frame, a text that is read or a sum in units; of the longest recording. Stored bytes of version 1 have 177 and are
+ * only read: they hold no alarms, and the record that is read from them has none on. */
 #define KHUYAPESH_STORED_LENGTH 180
 #define KHUYAPESH_FRAME_ROOM 64
 #define KHUYAPESH_RECORDING_LENGTH 65535
@@ -41,6 +41,12 @@
  * preset 3. An empty bank is 01 00 03. */
 #define KHUYAPESH_BANK_BATCHES 100
 #define KHUYAPESH_BANK_LENGTH 1203
+
+/* The recipes that totals are given for, recipe r at place r - 1; the most batches that are added up at once; and the least
+ * room for the text of totals. */
+#define KHUYAPESH_RECIPES 8
+#define KHUYAPESH_TOTALS_BATCHES 1000
+#define KHUYAPESH_TOTALS_ROOM 512
 
 /* The most records on one board. */
 #define KHUYAPESH_BOARD_RECORDS 16
@@ -109,7 +115,8 @@
  *     host side: H1 short buffer, H2 text's length, H3 text byte
  *     recordings: J1 length, J2 version, J3 length field, J4 address or access, J5 cut exchange
  *     drum change refused: Q0 address, Q1 recipe, Q2 factor, Q3 preset, Q4 no reply is awaited or the state is out of range
- *     drum change stopped by a wrong reply: the step, 1 NR, 2 PC, 3 PV, 4 RC, 5 SB */
+ *     drum change stopped by a wrong reply: the step, 1 NR, 2 PC, 3 PV, 4 RC, 5 SB
+ *     totals: W1 unequal lengths, W2 over KHUYAPESH_TOTALS_BATCHES, W3 a recipe, factor or raw volume out of range */
 #define KHUYAPESH_SILENCE 100u
 #define KHUYAPESH_STORED 200u
 #define KHUYAPESH_NO_SUCH 300u
@@ -117,6 +124,7 @@
 #define KHUYAPESH_RECORDING 500u
 #define KHUYAPESH_DRUM 600u
 #define KHUYAPESH_STOPPED 700u
+#define KHUYAPESH_TOTALS 800u
 
 /* Whether an answer of any of the functions is a silence or refusal; if so, its class and its number within that. */
 static inline int khuyapesh_is_refusal(uint32_t answer) { return answer >= KHUYAPESH_SILENCE; }
@@ -189,6 +197,33 @@ uint32_t khuyapesh_stored(const uint8_t *stored, size_t stored_length, uint8_t *
  * shorter than what would be written, with out untouched; else KHUYAPESH_DONE, or K7, and then the bank written is the
  * empty one, 3 bytes. */
 uint32_t khuyapesh_bank(const uint8_t *bank, size_t bank_length, uint8_t *out, size_t out_length);
+
+/* Adds batches up. Each has its raw volume, its factor and its recipe at the same place of the three lists. Answers
+ * KHUYAPESH_DONE, with the exact sum of raw times factor over the batches of recipe r in sums[r - 1], in ten-thousandths
+ * of a unit, and the number of these batches in counts[r - 1]; or W1 to W3, and then these sums and counts are all 0; what
+ * stands behind the first KHUYAPESH_RECIPES of either stays. Or, before all of these, H1 for under KHUYAPESH_RECIPES sums or
+ * counts, with both untouched. */
+uint32_t khuyapesh_totals(const uint32_t *raws, size_t raws_length, const uint32_t *factors, size_t factors_length,
+                          const uint32_t *recipes, size_t recipes_length, uint64_t *sums, size_t sums_length,
+                          uint32_t *counts, size_t counts_length);
+
+/* Adds up the batches of a stored bank, which is all of the bank_length bytes (of a buffer that is lent to grow: those that
+ * its length field says). Answers KHUYAPESH_DONE, with sums and counts as khuyapesh_totals gives them; or K7, and then they
+ * are all 0; or, before these, H1 as in khuyapesh_totals. */
+uint32_t khuyapesh_bank_totals(const uint8_t *bank, size_t bank_length, uint64_t *sums, size_t sums_length, uint32_t *counts,
+                               size_t counts_length);
+
+/* Writes a sum, in ten-thousandths of a unit, as units with four decimals to the start of out, the rest of which stays:
+ * 5075000 as 507.5000, 42 as 0.0042. Answers its length, 6 to 21; or H1 if out is under KHUYAPESH_FRAME_ROOM bytes, with out
+ * untouched. */
+uint32_t khuyapesh_units(uint64_t sum, uint8_t *out, size_t out_length);
+
+/* Writes what the program `totals` writes for a stored bank to the start of out, the rest of which stays: for each recipe
+ * that occurs in it, rising, a line with the recipe in two digits, the number of its batches and their sum, as in
+ * `03 1 507.5000`; nothing for an empty bank. Answers KHUYAPESH_DONE; or K7, and then the text is the line `refused K7`; with
+ * the number of bytes in *written in both. Or, before these, H1 if out is under KHUYAPESH_TOTALS_ROOM bytes, with out
+ * untouched and 0 in *written. Each line ends with one LF; no 0 byte stands behind the last. */
+uint32_t khuyapesh_totals_text(const uint8_t *bank, size_t bank_length, uint8_t *out, size_t out_length, size_t *written);
 
 /* Host side: builds the frame of a text at the start of out, the rest of which stays. Answers the frame's length; or no
  * such kind, then H1 to H3. */

@@ -1,12 +1,13 @@
 #!/usr/bin/env python3
-"""Makes the example recordings, examples/*.recording, from the descriptions below.
+"""Makes the example recordings and banks, examples/*.recording and *.bank, from what is below.
 
     scripts/examples.py            writes them
     scripts/examples.py --check    only compares them with the files present; status 1 on a difference
 
 An exchange is a pair of a request and a reply. A text stands for the frame of that text, the
 controller's address before it; bytes stand for themselves, so that a frame can be wrong. The answer
-of the judge to each recording stands in examples/expected and is not made here.
+of the judge to each recording stands in examples/expected and is not made here. Of the banks the
+totals are made too, examples/totals_expected, and the page examples/week_46.md.
 """
 
 import argparse
@@ -14,6 +15,7 @@ import pathlib
 import random
 import re
 import sys
+import typing
 
 FOLDER = pathlib.Path(__file__).resolve().parent.parent / "examples"
 
@@ -727,24 +729,230 @@ def every_recording():
     }
 
 
+# Banks of finished batches: version, total length, then the batches, oldest first
+
+BANK_VERSION = 1
+BANK_HEADER_LENGTH = 3
+# The bytes of number, recipe, factor, raw volume and preset.
+BATCH_WIDTHS = (2, 1, 2, 4, 3)
+
+
+class Batch(typing.NamedTuple):
+    number: int
+    recipe: int
+    factor: int
+    raw: int
+    preset: int
+
+    def units(self):
+        """What it counts for, in ten-thousandths of a unit, the factor being in ten-thousandths."""
+        return self.raw * self.factor
+
+
+def bank(batches):
+    body = b"".join(
+        field.to_bytes(width, "big")
+        for batch in batches
+        for field, width in zip(batch, BATCH_WIDTHS)
+    )
+    return bytes([BANK_VERSION]) + (BANK_HEADER_LENGTH + len(body)).to_bytes(2, "big") + body
+
+
+def decimals(number):
+    """A number of ten-thousandths, with four decimals."""
+    return f"{number // 10_000}.{number % 10_000:04}"
+
+
+def totals(batches):
+    """The line for each recipe that occurs: its number, how many batches, their exact sum."""
+    for recipe in RECIPES:
+        units = [batch.units() for batch in batches if batch.recipe == recipe]
+        if units:
+            yield f"{recipe:02} {len(units)} {decimals(sum(units))}"
+
+
+# Purchasing's week. The same preset comes again and again, so that rounding errs to the same side.
+
+OLD_DRUM, NEW_DRUM = 10_012, 10_150
+
+WEEK_46 = {
+    "Monday": [
+        Batch(9986, 1, 9_983, 3_204, 3_200),
+        Batch(9987, 1, 9_983, 3_207, 3_200),
+        Batch(9988, 3, OLD_DRUM, 503, 500),
+        Batch(9989, 5, 9_940, 24_091, 24_000),
+        Batch(9990, 1, 9_983, 3_202, 3_200),
+    ],
+    "Tuesday": [
+        Batch(9991, 5, 9_940, 24_088, 24_000),
+        Batch(9992, 1, 9_983, 3_206, 3_200),
+        Batch(9993, 1, 9_983, 2_503, 2_500),
+        Batch(9994, 3, OLD_DRUM, 402, 400),
+        Batch(9995, 5, 9_940, 12_086, 12_000),
+    ],
+    "Wednesday": [
+        Batch(9996, 1, 9_983, 3_205, 3_200),
+        # The drum was empty.
+        Batch(9997, 3, OLD_DRUM, 417, 500),
+        Batch(9998, 5, 9_940, 24_093, 24_000),
+        # The new drum was on, its factor was not: stopped and ended before anything flowed.
+        Batch(9999, 3, OLD_DRUM, 0, 500),
+        Batch(1, 3, NEW_DRUM, 501, 500),
+        Batch(2, 1, 9_983, 3_203, 3_200),
+    ],
+    "Thursday": [
+        Batch(3, 5, 9_940, 24_087, 24_000),
+        Batch(4, 3, NEW_DRUM, 304, 300),
+        Batch(5, 1, 9_983, 3_208, 3_200),
+        Batch(6, 1, 9_983, 2_506, 2_500),
+        Batch(7, 5, 9_940, 12_092, 12_000),
+    ],
+    "Friday": [
+        Batch(8, 3, NEW_DRUM, 502, 500),
+        Batch(9, 1, 9_983, 3_201, 3_200),
+        Batch(10, 5, 9_940, 24_095, 24_000),
+        # Stopped for the weekend.
+        Batch(11, 5, 9_940, 8_641, 24_000),
+        Batch(12, 3, NEW_DRUM, 303, 300),
+    ],
+}
+WEEK_46_BATCHES = [batch for batches in WEEK_46.values() for batch in batches]
+
+
+def every_bank():
+    """The batches of each bank."""
+    return {
+        "each_recipe_once": [Batch(400 + r, r, 10_000 + 11 * r, 500 + r, 500) for r in RECIPES],
+        "full_of_the_largest": 100
+        * [Batch(HIGHEST_BATCH_NUMBER, RECIPES[-1], 12_000, HIGHEST_RAW_VOLUME, 999_999)],
+        "no_batch": [],
+        "recipe_nine": WEEK_46_BATCHES[:-1] + [WEEK_46_BATCHES[-1]._replace(recipe=9)],
+        "week_46": WEEK_46_BATCHES,
+    }
+
+
+def totals_expected():
+    """What scripts/totals writes for all banks; one with a recipe that there is not is refused."""
+    for name, batches in every_bank().items():
+        good = all(batch.recipe in RECIPES for batch in batches)
+        for line in totals(batches) if good else ["refused K7"]:
+            yield f"examples/{name}.bank: {line}\n"
+
+
+# The page on that week
+
+
+def rounded(number, to):
+    """A number of ten-thousandths, rounded to so many of them, half of that up."""
+    return (number + to // 2) // to * to
+
+
+def difference(number):
+    return ("-" if number < 0 else "+") + decimals(abs(number))
+
+
+def week_46_page():
+    """The sheets, what purchasing made of them by hand, and why that is not the exact sum."""
+
+    def batches_of(recipe):
+        return [batch for batch in WEEK_46_BATCHES if batch.recipe == recipe]
+
+    def exact(recipe):
+        return sum(batch.units() for batch in batches_of(recipe))
+
+    def errors(recipe, to):
+        """By how much each batch is off if it is rounded."""
+        return [rounded(batch.units(), to) - batch.units() for batch in batches_of(recipe)]
+
+    sheets = "".join(
+        f"| {day} | {batch.number} | {batch.recipe} | {decimals(batch.factor)} | {batch.raw} "
+        f"| {decimals(batch.units())} |\n"
+        for day, batches in WEEK_46.items()
+        for batch in batches
+    )
+    raw = sum(batch.raw for batch in batches_of(3))
+    raw_before = sum(batch.raw for batch in batches_of(3) if batch.factor == OLD_DRUM)
+    off = {
+        1: sum(errors(1, 10_000)),
+        3: raw * NEW_DRUM - exact(3),
+        5: sum(errors(5, 10_000)),
+    }
+    seen = {recipe: sum(batch.raw > 0 for batch in batches_of(recipe)) for recipe in off}
+    by_hand = "".join(
+        f"| {recipe} | {seen[recipe]} | {decimals(exact(recipe) + off[recipe])} "
+        f"| {len(batches_of(recipe))} | {decimals(exact(recipe))} | {difference(off[recipe])} |\n"
+        for recipe in off
+    )
+    first = batches_of(1)[0]
+    up = sum(error > 0 for error in errors(1, 10_000))
+    down = sum(error < 0 for error in errors(5, 10_000))
+    lines = "".join(f"    {line}\n" for line in totals(WEEK_46_BATCHES))
+    return f"""# Week 46, added up
+
+Made by `scripts/examples.py` from the batches that it puts into `week_46.bank`.
+
+## The sheets
+
+For whoever adds up a week. A batch counts for its raw volume times its factor, the one that its recipe had when it was ended. A factor has four decimals: 10000 is 1.0000.
+
+| day | number | recipe | factor | raw | raw times factor |
+|---|---|---|---|---|---|
+{sheets}
+After 9999 the numbers start again from 1. On Wednesday recipe 3 got a new drum. Batch 9999 was started while the unit still had the old drum's factor, {decimals(OLD_DRUM)}; somebody saw it, and the batch was ended before anything had flowed. From batch 1 on the factor is the new drum's, {decimals(NEW_DRUM)}.
+
+## What purchasing had by hand
+
+| recipe | batches by hand | sum by hand | batches | exact sum | off by |
+|---|---|---|---|---|---|
+{by_hand}
+## Where it went wrong
+
+**Rounded before it was added** (recipes 1 and 5). Each batch was written down as a whole number of units. That is half a unit at most, but the same preset comes again and again, and each time the error is to the same side. Batch {first.number}, {decimals(first.units())}, was written as {rounded(first.units(), 10_000) // 10_000}; like it {up} of recipe 1's {len(batches_of(1))} batches went up, and {down} of recipe 5's {len(batches_of(5))} went down. Over the week recipe 1 is off by {difference(off[1])} and recipe 5 by {difference(off[5])}. Two decimals for each batch are not enough either: that gives {difference(sum(errors(1, 100)))} and {difference(sum(errors(5, 100)))}. Add first, and round the sum if it has to be.
+
+**Friday's factor for the whole week** (recipe 3). The week's raw volume is {raw}, and {raw} times {decimals(NEW_DRUM)} is {decimals(raw * NEW_DRUM)}. But {raw_before} of it ran before the drum was changed, with {decimals(OLD_DRUM)}: that is {decimals(off[3])} too much, {raw_before} times {decimals(NEW_DRUM - OLD_DRUM)}. Each batch has its own factor on its sheet.
+
+**A batch left out** (recipe 3). Batch 9999 has raw 0. It adds nothing to the sum, but it is a finished batch, and its sheet was printed: there are {len(batches_of(3))}, not {seen[3]}.
+
+## What the program says
+
+    scripts/totals examples/week_46.bank
+
+prints for each recipe the number of batches and the exact sum, in which nothing is rounded:
+
+{lines}
+Together that is {decimals(sum(batch.units() for batch in WEEK_46_BATCHES))}, the sum over all {len(WEEK_46_BATCHES)} batches.
+"""
+
+
+def every_file():
+    """The content of each file, by its name."""
+    return {
+        **{f"{name}.recording": content for name, content in every_recording().items()},
+        **{f"{name}.bank": bank(batches) for name, batches in every_bank().items()},
+        "totals_expected": "".join(totals_expected()).encode("ascii"),
+        "week_46.md": week_46_page().encode("ascii"),
+    }
+
+
 def differences(made):
     """A line for each file that is missing, not as made here, or not made here at all."""
-    present = {path.stem: path.read_bytes() for path in FOLDER.glob("*.recording")}
+    present = {path.name: path for kind in ("*.recording", "*.bank") for path in FOLDER.glob(kind)}
     for name in sorted(made.keys() | present.keys()):
-        if name not in present:
-            yield f"examples/{name}.recording: missing"
+        path = FOLDER / name
+        if not path.exists():
+            yield f"examples/{name}: missing"
         elif name not in made:
-            yield f"examples/{name}.recording: not made by scripts/examples.py"
-        elif made[name] != present[name]:
-            yield f"examples/{name}.recording: differs from what scripts/examples.py makes"
+            yield f"examples/{name}: not made by scripts/examples.py"
+        elif made[name] != path.read_bytes():
+            yield f"examples/{name}: differs from what scripts/examples.py makes"
 
 
 def main():
-    arguments = argparse.ArgumentParser(description="Makes the example recordings.")
+    arguments = argparse.ArgumentParser(description="Makes the example recordings and banks.")
     arguments.add_argument(
         "--check", action="store_true", help="only compare them with the files present"
     )
-    made = every_recording()
+    made = every_file()
     if arguments.parse_args().check:
         lines = list(differences(made))
         for line in lines:
@@ -752,7 +960,7 @@ def main():
         return 1 if lines else 0
     FOLDER.mkdir(exist_ok=True)
     for name, content in made.items():
-        (FOLDER / f"{name}.recording").write_bytes(content)
+        (FOLDER / name).write_bytes(content)
     return 0
 
 

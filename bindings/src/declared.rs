@@ -85,6 +85,34 @@ extern "C" {
         out_length: usize,
     ) -> u32;
     fn khuyapesh_bank(bank: *const u8, bank_length: usize, out: *mut u8, out_length: usize) -> u32;
+    fn khuyapesh_totals(
+        raws: *const u32,
+        raws_length: usize,
+        factors: *const u32,
+        factors_length: usize,
+        recipes: *const u32,
+        recipes_length: usize,
+        sums: *mut u64,
+        sums_length: usize,
+        counts: *mut u32,
+        counts_length: usize,
+    ) -> u32;
+    fn khuyapesh_bank_totals(
+        bank: *const u8,
+        bank_length: usize,
+        sums: *mut u64,
+        sums_length: usize,
+        counts: *mut u32,
+        counts_length: usize,
+    ) -> u32;
+    fn khuyapesh_units(sum: u64, out: *mut u8, out_length: usize) -> u32;
+    fn khuyapesh_totals_text(
+        bank: *const u8,
+        bank_length: usize,
+        out: *mut u8,
+        out_length: usize,
+        written: *mut usize,
+    ) -> u32;
     fn khuyapesh_build(
         kind: u8,
         text: *const u8,
@@ -313,6 +341,69 @@ pub fn stored(stored: &[u8], out: &mut [u8]) -> u32 {
 pub fn bank(bank: &[u8], out: &mut [u8]) -> u32 {
     // SAFETY: pointers and lengths of live slices that do not overlap.
     unsafe { khuyapesh_bank(bank.as_ptr(), bank.len(), out.as_mut_ptr(), out.len()) }
+}
+
+/// Adds batches up: for each recipe its sum, in ten-thousandths of a unit, and how many batches it has.
+pub fn totals(
+    raws: &[u32],
+    factors: &[u32],
+    recipes: &[u32],
+    sums: &mut [u64],
+    counts: &mut [u32],
+) -> u32 {
+    // SAFETY: pointers and lengths of live slices; those that are written overlap no other.
+    unsafe {
+        khuyapesh_totals(
+            raws.as_ptr(),
+            raws.len(),
+            factors.as_ptr(),
+            factors.len(),
+            recipes.as_ptr(),
+            recipes.len(),
+            sums.as_mut_ptr(),
+            sums.len(),
+            counts.as_mut_ptr(),
+            counts.len(),
+        )
+    }
+}
+
+/// Adds up the batches of a stored bank.
+pub fn bank_totals(bank: &[u8], sums: &mut [u64], counts: &mut [u32]) -> u32 {
+    // SAFETY: pointers and lengths of live slices; those that are written overlap no other.
+    unsafe {
+        khuyapesh_bank_totals(
+            bank.as_ptr(),
+            bank.len(),
+            sums.as_mut_ptr(),
+            sums.len(),
+            counts.as_mut_ptr(),
+            counts.len(),
+        )
+    }
+}
+
+/// Writes a sum, in ten-thousandths of a unit, as units with four decimals.
+pub fn units(sum: u64, out: &mut [u8]) -> u32 {
+    // SAFETY: pointer and length of a live slice.
+    unsafe { khuyapesh_units(sum, out.as_mut_ptr(), out.len()) }
+}
+
+/// Writes the text of a stored bank's totals: the answer, and how many bytes were written.
+pub fn totals_text(bank: &[u8], out: &mut [u8]) -> (u32, usize) {
+    // Not a number that the library should leave.
+    let mut written = usize::MAX;
+    // SAFETY: pointers and lengths of live slices that do not overlap, and a pointer to a number of our own.
+    let answer = unsafe {
+        khuyapesh_totals_text(
+            bank.as_ptr(),
+            bank.len(),
+            out.as_mut_ptr(),
+            out.len(),
+            &mut written,
+        )
+    };
+    (answer, written)
 }
 
 /// Builds the frame of a text.

@@ -1,5 +1,6 @@
-//! The proved blending controller, with or without a bank of finished batches, panel, stored forms, host side, drum change
-//! and judge, and what a recording tells of a record, for Rust: a test bench, a host's program, or whoever keeps recordings.
+//! The proved blending controller, with or without a bank of finished batches, panel, stored forms, week totals, host side,
+//! drum change and judge, and what a recording tells of a record, for Rust: a test bench, a host's program, or whoever keeps
+//! recordings.
 //!
 //! Each function is the one of `include/khuyapesh.h` with `khuyapesh_` before its name, over slices. That header says what
 //! each takes and answers; any bytes, lengths and numbers are safe to pass. [`Exchanges`] and [`Following`] go through a
@@ -14,8 +15,9 @@ mod declared;
 mod following;
 
 pub use declared::{
-    bank, banked_call, banked_several, board, build, call, drum_begin, drum_take, exchange, judge,
-    known, learn, may_hold, panel, read, several, stored, why,
+    bank, bank_totals, banked_call, banked_several, board, build, call, drum_begin, drum_take,
+    exchange, judge, known, learn, may_hold, panel, read, several, stored, totals, totals_text,
+    units, why,
 };
 pub use following::{Exchanges, Following};
 
@@ -30,7 +32,13 @@ pub const STORED_LENGTH: usize = 180;
 pub const BANK_BATCHES: usize = 100;
 pub const BANK_LENGTH: usize = 1203;
 
-/// The least room for a reply, a built frame or a text that is read.
+/// The recipes that totals are given for, recipe r at place r - 1; the most batches that are added up at once; and the least
+/// room for the text of totals.
+pub const RECIPES: usize = 8;
+pub const TOTALS_BATCHES: usize = 1000;
+pub const TOTALS_ROOM: usize = 512;
+
+/// The least room for a reply, a built frame, a text that is read or a sum in units.
 pub const FRAME_ROOM: usize = 64;
 
 // The kinds of link.
@@ -89,6 +97,7 @@ pub const HOST: u32 = 400;
 pub const RECORDING: u32 = 500;
 pub const DRUM: u32 = 600;
 pub const STOPPED: u32 = 700;
+pub const TOTALS: u32 = 800;
 
 /// What `several` and `banked_several` report.
 #[derive(Clone, Copy, PartialEq, Eq, Debug, Default)]

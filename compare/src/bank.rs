@@ -124,6 +124,11 @@ impl Bank {
         }
     }
 
+    /// The batches, oldest first.
+    pub fn batches(&self) -> impl Iterator<Item = &Batch> {
+        self.batches.iter()
+    }
+
     pub fn is_valid(&self) -> bool {
         self.batches.len() <= MOST_BATCHES && self.batches.iter().all(Batch::is_valid)
     }

@@ -1,7 +1,7 @@
 //! The library beside this program on the same inputs: times, which are of one run and test nothing,
 //! or a fixed amount of work for callgrind to count the instructions of. The inputs are of document
 //! 01, without alarms, so that the numbers of one delivery can be held against another's; those with a bank
-//! come last.
+//! come behind these, and totals last.
 
 use crate::bank::MOST_BATCHES;
 use crate::board::MOST_RECORDS;
@@ -11,9 +11,12 @@ use crate::generate::banks;
 use crate::generate::recordings;
 use crate::generate::records::record_without_alarms;
 use crate::generate::requests::{self, command_of_document_01, Commands};
+use crate::generate::weeks;
+use crate::interface::TEXT_ROOM;
 use crate::random::Random;
 use crate::record::{Phase, Record};
 use crate::stored::{self, STORED_LENGTH};
+use crate::totals::RECIPES;
 use crate::{interface, library};
 use std::hint::black_box;
 use std::time::{Duration, Instant};
@@ -45,6 +48,8 @@ fn classes(seed: u64) -> Vec<Class> {
         classes.push(board(&mut random, count));
     }
     classes.push(banked(&mut random));
+    classes.push(added_up(&mut random));
+    classes.push(printed(&mut random));
     classes
 }
 
@@ -207,6 +212,48 @@ fn banked(random: &mut Random) -> Class {
     }
 }
 
+/// The totals of as many batches as are added up at once.
+fn added_up(random: &mut Random) -> Class {
+    let week = weeks::full(random);
+    let week_second = week.clone();
+    let (mut sums_first, mut counts_first) = ([0; RECIPES], [0; RECIPES]);
+    let (mut sums_second, mut counts_second) = (sums_first, counts_first);
+    Class {
+        name: format!("totals: {} batches", week.raws.len()),
+        unit: "batch",
+        units: week.raws.len(),
+        library: Box::new(move || {
+            let lists = black_box(week.lists());
+            black_box(library::totals(lists, &mut sums_first, &mut counts_first));
+        }),
+        second: Box::new(move || {
+            let lists = black_box(week_second.lists());
+            let (sums, counts) = (&mut sums_second, &mut counts_second);
+            black_box(interface::totals(lists, sums, counts, Fault::None));
+        }),
+    }
+}
+
+/// The text of a full bank's totals.
+fn printed(random: &mut Random) -> Class {
+    let bank = banks::full(random).form(Fault::None);
+    let bank_second = bank.clone();
+    let (mut out_first, mut out_second) = ([0; TEXT_ROOM], [0; TEXT_ROOM]);
+    Class {
+        name: format!("totals: text of {MOST_BATCHES} batches"),
+        unit: "text",
+        units: 1,
+        library: Box::new(move || {
+            black_box(library::totals_text(black_box(&bank), &mut out_first));
+        }),
+        second: Box::new(move || {
+            let answer =
+                interface::totals_text(black_box(&bank_second), &mut out_second, Fault::None);
+            black_box(answer);
+        }),
+    }
+}
+
 /// Reading a stored form and writing it again, which each call over bytes does beside its own work.
 fn conversion(random: &mut Random) -> Class {
     let form = stored::form(&record_without_alarms(random));
@@ -309,6 +356,14 @@ fn seconds(class: &mut Class) -> (f64, f64) {
     best
 }
 
+/// The word for more than one of a unit.
+fn several(unit: &str) -> String {
+    match unit {
+        "batch" => "batches".to_string(),
+        _ => format!("{unit}s"),
+    }
+}
+
 pub fn timed(seed: u64) {
     println!(
         "{:<34} {:>13} {:>13} {:<10} {:>6}",
@@ -322,7 +377,7 @@ pub fn timed(seed: u64) {
             class.name,
             units / library,
             units / second,
-            format!("{}s", class.unit),
+            several(class.unit),
             second / library
         );
         if class.unit == "byte" {

@@ -12,8 +12,10 @@ use std::fmt::{self, Write};
 mod banked;
 mod known;
 mod probes;
+mod totals;
 
 pub use banked::Unit;
+pub use totals::{TotalsRoom, Week};
 
 /// How much stands around each lent slice that neither side may touch.
 const GUARD: usize = 8;
@@ -85,6 +87,13 @@ pub struct Counts {
     pub batches_kept: u64,
     pub banked_several_frames: u64,
     pub stored_banks: u64,
+    pub totals: u64,
+    pub totals_added: u64,
+    pub totals_refused: u64,
+    pub bank_totals: u64,
+    pub bank_totals_refused: u64,
+    pub units: u64,
+    pub totals_texts: u64,
     pub boards: u64,
     pub boards_answered: u64,
     pub boards_refused: u64,
@@ -115,6 +124,10 @@ impl Counts {
             + self.banked_calls
             + self.banked_several_frames
             + self.stored_banks
+            + self.totals
+            + self.bank_totals
+            + self.units
+            + self.totals_texts
             + self.boards
             + self.drum_changes
             + self.panel_events
@@ -134,7 +147,8 @@ impl fmt::Display for Counts {
             formatter,
             "calls {}, several frames {} (answered {}, stopped {}), \
              banked calls {} (answered {}, refused {}), banked several frames {}, batches kept {}, \
-             stored banks {}, board calls {} (answered {}, refused {}), \
+             stored banks {}, totals {} (added up {}, refused {}), bank totals {} (refused {}), \
+             units {}, texts of totals {}, board calls {} (answered {}, refused {}), \
              drum change calls {} (ended {}, stopped {}, refused {}), panel events {}, \
              stored forms {}, host side {}, enumerated {}, \
              recordings {} (fits {}, refuted {}, not judged {}, refused {}), known {}, learnt {}, \
@@ -149,6 +163,13 @@ impl fmt::Display for Counts {
             self.banked_several_frames,
             self.batches_kept,
             self.stored_banks,
+            self.totals,
+            self.totals_added,
+            self.totals_refused,
+            self.bank_totals,
+            self.bank_totals_refused,
+            self.units,
+            self.totals_texts,
             self.boards,
             self.boards_answered,
             self.boards_refused,

@@ -16,9 +16,14 @@ use crate::record::Record;
 use crate::recording::{self, Exchange, Spans};
 use crate::several::{self, Report};
 use crate::stored::{self, STORED_LENGTH};
+use crate::totals::{self, Lists, Totals, Units, RECIPES};
 
 const UNKNOWN_KIND_OR_EVENT: u32 = 300;
 const BAD_BANK: u32 = 207;
+const SHORT_BUFFER: u32 = 401;
+
+/// The least room for the text of totals.
+pub const TEXT_ROOM: usize = 512;
 
 fn kind_of(number: u8) -> Option<Kind> {
     match number {
@@ -314,7 +319,7 @@ pub fn stored(stored: &[u8], out: &mut [u8], fault: Fault) -> u32 {
 
 pub fn bank(bank: &[u8], out: &mut [u8], fault: Fault) -> u32 {
     let (refusal, read) = Bank::read(bank, fault);
-    let answer = refusal.map_or(0, |number| 200 + u32::from(number));
+    let answer = bank_answer(refusal);
     match (fault, refusal) {
         (Fault::RefusedBankNotWritten, Some(_)) => return answer,
         (Fault::BankRefusedBeforeRoom, Some(_)) if out.len() < read.form(fault).len() => {
@@ -325,6 +330,174 @@ pub fn bank(bank: &[u8], out: &mut [u8], fault: Fault) -> u32 {
     match read.write(out, fault) {
         Ok(()) => answer,
         Err(number) => 200 + u32::from(number),
+    }
+}
+
+/// The answer to a bank that is refused or not.
+fn bank_answer(refusal: Option<u8>) -> u32 {
+    refusal.map_or(0, |number| 200 + u32::from(number))
+}
+
+/// Whether the totals of all recipes have room; else H1.
+fn has_totals_room(sums: &[u64], counts: &[u32], fault: Fault) -> bool {
+    let (least_sums, least_counts) = match fault {
+        Fault::SevenSumsTaken => (RECIPES - 1, RECIPES),
+        Fault::NineSumsNeeded => (RECIPES + 1, RECIPES),
+        Fault::SevenCountsTaken => (RECIPES, RECIPES - 1),
+        Fault::NineCountsNeeded => (RECIPES, RECIPES + 1),
+        _ => (RECIPES, RECIPES),
+    };
+    sums.len() >= least_sums && counts.len() >= least_counts
+}
+
+/// Lays totals at the start of buffers that have room for them, the rest of which stays.
+fn lay_totals(totals: &Totals, sums: &mut [u64], counts: &mut [u32]) {
+    for (place, sum) in sums.iter_mut().zip(totals.sums) {
+        *place = sum;
+    }
+    for (place, count) in counts.iter_mut().zip(totals.counts) {
+        *place = count;
+    }
+}
+
+/// Lays totals as planted faults do.
+#[cold]
+fn mislay_totals(totals: &Totals, sums: &mut [u64], counts: &mut [u32], fault: Fault) {
+    let mut laid = *totals;
+    match fault {
+        Fault::OldSumsAdded => {
+            for (sum, old) in laid.sums.iter_mut().zip(&*sums) {
+                *sum = sum.wrapping_add(*old);
+            }
+        }
+        Fault::OldCountsAdded => {
+            for (count, old) in laid.counts.iter_mut().zip(&*counts) {
+                *count = count.wrapping_add(*old);
+            }
+        }
+        Fault::NinthSumTouched => sums.iter_mut().skip(RECIPES).for_each(|sum| *sum = 0),
+        Fault::NinthCountTouched => counts.iter_mut().skip(RECIPES).for_each(|count| *count = 0),
+        _ => {}
+    }
+    lay_totals(&laid, sums, counts);
+}
+
+/// What planted faults do to a refusal.
+struct MisrefusedTotals {
+    before_room: Fault,
+    sums_stay: Fault,
+    counts_stay: Fault,
+}
+
+/// Lays what is added up into the lent buffers; or H1.
+fn give_totals(
+    add_up: impl Fn() -> (u32, Totals),
+    sums: &mut [u64],
+    counts: &mut [u32],
+    planted: MisrefusedTotals,
+    fault: Fault,
+) -> u32 {
+    if !has_totals_room(sums, counts, fault) {
+        if fault == Fault::ShortRoomCleared {
+            sums.fill(0);
+            counts.fill(0);
+        }
+        let refused = || Some(add_up().0).filter(|&answer| answer != 0);
+        let early = (fault == planted.before_room).then(refused).flatten();
+        return early.unwrap_or(SHORT_BUFFER);
+    }
+    let (answer, totals) = add_up();
+    match fault {
+        Fault::None => lay_totals(&totals, sums, counts),
+        _ if answer != 0 && fault == planted.sums_stay => lay_totals(&totals, &mut [], counts),
+        _ if answer != 0 && fault == planted.counts_stay => lay_totals(&totals, sums, &mut []),
+        _ => mislay_totals(&totals, sums, counts, fault),
+    }
+    answer
+}
+
+pub fn totals(lists: Lists, sums: &mut [u64], counts: &mut [u32], fault: Fault) -> u32 {
+    let add_up = || {
+        let (refusal, totals) = totals::of_lists(lists, fault);
+        let answer = refusal.map_or(0, |number| 800 + u32::from(number));
+        (answer, totals)
+    };
+    let planted = MisrefusedTotals {
+        before_room: Fault::ListsBeforeRoom,
+        sums_stay: Fault::RefusedSumsStay,
+        counts_stay: Fault::RefusedCountsStay,
+    };
+    give_totals(add_up, sums, counts, planted, fault)
+}
+
+pub fn bank_totals(bank: &[u8], sums: &mut [u64], counts: &mut [u32], fault: Fault) -> u32 {
+    let add_up = || {
+        let (refusal, totals) = totals::of_bank(bank, fault);
+        (bank_answer(refusal), totals)
+    };
+    let planted = MisrefusedTotals {
+        before_room: Fault::BankBeforeTotalsRoom,
+        sums_stay: Fault::RefusedBankSumsStay,
+        counts_stay: Fault::RefusedBankCountsStay,
+    };
+    give_totals(add_up, sums, counts, planted, fault)
+}
+
+/// Lays a text at the start of a buffer that has room for it, the rest of which stays.
+fn lay_text(text: &str, out: &mut [u8], overwritten: bool) {
+    let (place, behind) = out.split_at_mut(text.len());
+    place.copy_from_slice(text.as_bytes());
+    if overwritten {
+        behind.fill(0);
+    }
+}
+
+pub fn units(sum: u64, out: &mut [u8], fault: Fault) -> u32 {
+    let least = match fault {
+        Fault::SixtyThreeForUnits => LEAST_BUFFER - 1,
+        Fault::SixtyFiveForUnits => LEAST_BUFFER + 1,
+        _ => LEAST_BUFFER,
+    };
+    if out.len() < least {
+        return SHORT_BUFFER;
+    }
+    let text = Units { sum, fault }.to_string();
+    lay_text(&text, out, fault == Fault::BehindUnitsOverwritten);
+    text.len() as u32
+}
+
+/// The answer, and how many bytes were written.
+pub fn totals_text(bank: &[u8], out: &mut [u8], fault: Fault) -> (u32, usize) {
+    let least = match fault {
+        Fault::FiveHundredElevenTaken => TEXT_ROOM - 1,
+        Fault::FiveHundredThirteenNeeded => TEXT_ROOM + 1,
+        Fault::FittingTextLaid => totals::text(bank, fault).1.len(),
+        _ => TEXT_ROOM,
+    };
+    if out.len() < least {
+        return short_text_room(bank, out, fault);
+    }
+    let (refusal, text) = totals::text(bank, fault);
+    lay_text(&text, out, fault == Fault::BehindTextOverwritten);
+    let written = match refusal {
+        Some(_) if fault == Fault::RefusalWithoutLength => 0,
+        _ => text.len(),
+    };
+    (bank_answer(refusal), written)
+}
+
+/// H1 and no bytes, or what planted faults make of it.
+fn short_text_room(bank: &[u8], out: &mut [u8], fault: Fault) -> (u32, usize) {
+    let text = || totals::text(bank, fault);
+    match fault {
+        Fault::BankBeforeTextRoom if text().0.is_some() => (BAD_BANK, 0),
+        Fault::TextLaidBesideShortRoom => {
+            let (_, text) = text();
+            lay_text(&text[..text.len().min(out.len())], out, false);
+            (SHORT_BUFFER, 0)
+        }
+        Fault::LengthBesideShortRoom => (SHORT_BUFFER, text().1.len()),
+        _ => (SHORT_BUFFER, 0),
     }
 }
 
@@ -370,7 +543,6 @@ pub struct Why {
     pub needed: u32,
 }
 
-const SHORT_BUFFER: u32 = 401;
 const NOT_JUDGED: u32 = 2;
 
 /// The answer and the place, where nothing is told.
@@ -744,6 +916,119 @@ mod tests {
         let full = lent(100);
         assert_eq!(written(&full, 1203), (0, full.clone()));
         assert_eq!(written(&full, 1202), (206, vec![9; 1202]));
+    }
+
+    /// A week of two batches, of recipes 3 and 8.
+    const WEEK: Lists = Lists {
+        raws: &[500, 1],
+        factors: &[10_150, 8_000],
+        recipes: &[3, 8],
+    };
+
+    /// What totals leave in so many sums and counts that held 9.
+    fn left(
+        rooms: (usize, usize),
+        add_up: impl Fn(&mut [u64], &mut [u32]) -> u32,
+    ) -> (u32, Vec<u64>, Vec<u32>) {
+        let (mut sums, mut counts) = (vec![9; rooms.0], vec![9; rooms.1]);
+        let answer = add_up(&mut sums, &mut counts);
+        (answer, sums, counts)
+    }
+
+    /// Eight sums and counts are written, also by a refusal; the others stay, and all of them by H1.
+    #[test]
+    fn totals_of_lists() {
+        let of = |lists: Lists, rooms: (usize, usize)| {
+            left(rooms, |sums, counts| {
+                totals(lists, sums, counts, Fault::None)
+            })
+        };
+        let sums = vec![0, 0, 5_075_000, 0, 0, 0, 0, 8_000, 9, 9];
+        let counts = vec![0, 0, 1, 0, 0, 0, 0, 1, 9];
+        assert_eq!(of(WEEK, (10, 9)), (0, sums, counts));
+        let unequal = Lists {
+            recipes: &[3],
+            ..WEEK
+        };
+        let long = vec![8_000; 1_001];
+        let too_many = Lists {
+            raws: &long,
+            factors: &long,
+            recipes: &long,
+        };
+        let out_of_range = Lists {
+            factors: &[10_150, 7_999],
+            ..WEEK
+        };
+        for (answer, lists) in [(801, unequal), (802, too_many), (803, out_of_range)] {
+            let zeros = (answer, vec![0; 8], vec![0, 0, 0, 0, 0, 0, 0, 0, 9]);
+            assert_eq!(of(lists, (8, 9)), zeros);
+            for rooms in [(7, 8), (8, 7), (0, 100), (100, 0), (0, 0)] {
+                let untouched = (401, vec![9; rooms.0], vec![9; rooms.1]);
+                assert_eq!(of(lists, rooms), untouched);
+                assert_eq!(of(WEEK, rooms), untouched);
+            }
+        }
+    }
+
+    #[test]
+    fn totals_of_banks() {
+        let of = |bank: &[u8], rooms: (usize, usize)| {
+            left(rooms, |sums, counts| {
+                bank_totals(bank, sums, counts, Fault::None)
+            })
+        };
+        // Each batch is 7 times 0.8.
+        let full = (
+            0,
+            vec![5_600_000, 0, 0, 0, 0, 0, 0, 0, 9],
+            vec![100, 0, 0, 0, 0, 0, 0, 0, 9],
+        );
+        assert_eq!(of(&lent(100), (9, 9)), full);
+        assert_eq!(of(&[1, 0, 3], (8, 8)), (0, vec![0; 8], vec![0; 8]));
+        // Lent to grow, a bank is longer than its field says.
+        for bad in [&lent(2)[..], &[], &[1, 0], &[2, 0, 3]] {
+            assert_eq!(of(bad, (8, 8)), (207, vec![0; 8], vec![0; 8]));
+            assert_eq!(of(bad, (7, 8)), (401, vec![9; 7], vec![9; 8]));
+            assert_eq!(of(bad, (8, 7)), (401, vec![9; 8], vec![9; 7]));
+        }
+    }
+
+    #[test]
+    fn units_in_a_buffer() {
+        let mut out = [9; 70];
+        assert_eq!(units(5_075_000, &mut out[..63], Fault::None), 401);
+        assert_eq!(out, [9; 70]);
+        assert_eq!(units(5_075_000, &mut out[..64], Fault::None), 8);
+        assert_eq!((&out[..8], &out[8..]), (&b"507.5000"[..], &[9; 62][..]));
+        assert_eq!(units(u64::MAX, &mut out, Fault::None), 21);
+        let text = (&b"1844674407370955.1615"[..], &[9; 49][..]);
+        assert_eq!((&out[..21], &out[21..]), text);
+    }
+
+    /// A line or none; what stands behind it stays.
+    #[test]
+    fn texts_of_totals() {
+        let bank = &lent(2)[..27];
+        for (answer, stored, text) in [
+            (0, bank, &b"01 2 11.2000\n"[..]),
+            (0, &[1, 0, 3], b""),
+            (207, &[], b"refused K7\n"),
+            (207, &bank[..26], b"refused K7\n"),
+        ] {
+            for room in [0, 13, 511] {
+                let mut out = vec![9; room];
+                assert_eq!(totals_text(stored, &mut out, Fault::None), (401, 0));
+                assert_eq!(out, vec![9; room]);
+            }
+            for room in [512, 600] {
+                let mut out = vec![9; room];
+                let answered = totals_text(stored, &mut out, Fault::None);
+                assert_eq!(answered, (answer, text.len()));
+                let behind = vec![9; room - text.len()];
+                assert_eq!(out, [text, &behind].concat());
+            }
+        }
     }
 
     #[test]

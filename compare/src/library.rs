@@ -7,10 +7,11 @@ mod proved {
     use crate::interface::Why;
     use crate::recording::Spans;
     use crate::several::Report;
+    use crate::totals::Lists;
 
     pub use khuyapesh::{
-        bank, banked_call, board, build, call, drum_take, judge, known, learn, may_hold, panel,
-        read, stored, Following,
+        bank, bank_totals, banked_call, board, build, call, drum_take, judge, known, learn,
+        may_hold, panel, read, stored, totals_text, units, Following,
     };
 
     fn own(report: khuyapesh::Report) -> Report {
@@ -36,6 +37,15 @@ mod proved {
     ) -> (u32, Report) {
         let (answer, report) = khuyapesh::banked_several(stored, bank, bytes, reply);
         (answer, own(report))
+    }
+
+    pub fn totals(lists: Lists, sums: &mut [u64], counts: &mut [u32]) -> u32 {
+        let Lists {
+            raws,
+            factors,
+            recipes,
+        } = lists;
+        khuyapesh::totals(raws, factors, recipes, sums, counts)
     }
 
     pub fn drum_begin(picks: Picks, state: &mut [u8], request: &mut [u8]) -> u32 {
@@ -91,6 +101,7 @@ mod stand_in {
     use crate::numbers::Numbers;
     use crate::recording::{self, Exchange, Spans};
     use crate::several::Report;
+    use crate::totals::Lists;
     use std::cell::RefCell;
 
     pub fn call(kind: u8, stored: &mut [u8], request: &[u8], reply: &mut [u8]) -> u32 {
@@ -122,6 +133,22 @@ mod stand_in {
 
     pub fn bank(bank: &[u8], out: &mut [u8]) -> u32 {
         interface::bank(bank, out, Fault::None)
+    }
+
+    pub fn totals(lists: Lists, sums: &mut [u64], counts: &mut [u32]) -> u32 {
+        interface::totals(lists, sums, counts, Fault::None)
+    }
+
+    pub fn bank_totals(bank: &[u8], sums: &mut [u64], counts: &mut [u32]) -> u32 {
+        interface::bank_totals(bank, sums, counts, Fault::None)
+    }
+
+    pub fn units(sum: u64, out: &mut [u8]) -> u32 {
+        interface::units(sum, out, Fault::None)
+    }
+
+    pub fn totals_text(bank: &[u8], out: &mut [u8]) -> (u32, usize) {
+        interface::totals_text(bank, out, Fault::None)
     }
 
     pub fn board(kind: u8, stored: &mut [u8], request: &[u8], reply: &mut [u8]) -> u32 {

@@ -33,6 +33,7 @@ mod recording;
 mod run;
 mod several;
 mod stored;
+mod totals;
 #[cfg(test)]
 mod worked_examples;
 

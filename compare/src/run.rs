@@ -9,7 +9,7 @@ use crate::frame::{self, Kind};
 use crate::generate::streams::Talk;
 use crate::generate::{
     banks, boards, drum_changes, host, kept_batches, recordings, records, refutations, requests,
-    stored_forms, streams,
+    stored_forms, streams, weeks,
 };
 use crate::random::Random;
 use crate::record::Record;
@@ -62,7 +62,7 @@ fn random_rounds(
     };
     let mut record = any_record(&mut random);
     // Numbers of their own: all else that a seed gives does not hang on the streams, the boards, the drum
-    // changes, what recordings tell or the banks.
+    // changes, what recordings tell, the banks or the totals.
     let mut random_of_streams = Random::new(!amounts.seed);
     let mut record_of_streams = any_record(&mut random_of_streams);
     let mut random_of_boards = Random::new(amounts.seed ^ 1 << 63);
@@ -71,6 +71,7 @@ fn random_rounds(
     let mut random_of_refutations = Random::new(amounts.seed ^ 1 << 61);
     let mut random_of_banks = Random::new(amounts.seed ^ 1 << 60);
     let mut unit = any_unit(&mut random_of_banks);
+    let mut random_of_totals = Random::new(amounts.seed ^ 1 << 59);
     let mut last_progress = Instant::now();
     for round in 0..rounds {
         for _ in 0..share(amounts.calls, round) {
@@ -111,6 +112,9 @@ fn random_rounds(
         }
         for _ in 0..share(amounts.recordings / 4, round) {
             one_unjudged(comparison, &mut random_of_banks)?;
+        }
+        for _ in 0..share(amounts.calls / 10, round) {
+            one_week(comparison, &mut random_of_totals)?;
         }
         if progress && last_progress.elapsed() >= PROGRESS_INTERVAL {
             eprintln!("round {} of {rounds}: {}", round + 1, comparison.counts);
@@ -334,6 +338,20 @@ fn one_unjudged(comparison: &mut Comparison, random: &mut Random) -> Result<(), 
     comparison.judge(&recording)?;
     if random.percent(40) {
         comparison.told(&recording)?;
+    }
+    Ok(())
+}
+
+/// The totals of one week, of a stored bank and as text, and a sum written as units.
+fn one_week(comparison: &mut Comparison, random: &mut Random) -> Result<(), Difference> {
+    let week = weeks::week(random);
+    comparison.totals(week.lists(), &weeks::room(random))?;
+    let form = banks::form(random);
+    comparison.bank_totals(&form, &weeks::room(random))?;
+    comparison.totals_text(&form, &weeks::text_room(random))?;
+    comparison.units(weeks::sum(random), &out_buffer(random, 64))?;
+    if random.percent(5) {
+        comparison.bank_and_lists(&banks::bank(random))?;
     }
     Ok(())
 }

@@ -21,6 +21,7 @@ use crate::random::Random;
 use crate::record::{Phase, Record};
 use crate::recording::{self, Exchange};
 use crate::several::{self, Report};
+use crate::totals;
 use std::fs;
 use std::path::Path;
 
@@ -680,6 +681,45 @@ fn a_kept_batch_on_the_line() {
         call(record, &request),
         (bytes("02 30 31 4E 4F 30 31 03 02 7F"), record)
     );
+}
+
+/// What is printed for a stored bank.
+fn printed(stored: &[u8]) -> String {
+    totals::text(stored, Fault::None).1
+}
+
+/// The bench's batch, and its form as document 02 has it: recipe 3, factor 10150, raw 500.
+#[test]
+fn totals_of_the_bench() {
+    let mut bank = Bank::default();
+    assert_eq!(printed(&bank.form(Fault::None)), "");
+    let record = batch_on_the_bench(bench_record(), &mut bank, false);
+    let form = bank.form(Fault::None);
+    assert_eq!(form, [bytes("01 00 0F"), bytes(KEPT)].concat());
+    assert_eq!(printed(&form), "03 1 507.5000\n");
+    // A second batch, of recipe 1 at its lowest factor: 500 times 0.8.
+    let record = ask_banked(record, &mut bank, "NR 01", "OK");
+    batch_on_the_bench(record, &mut bank, true);
+    let both = printed(&bank.form(Fault::None));
+    assert_eq!(both, "01 1 400.0000\n03 1 507.5000\n");
+}
+
+#[test]
+fn totals_of_bad_banks() {
+    assert_eq!(printed(&[]), "refused K7\n");
+    for stored in [
+        "01",
+        "01 00",
+        "00 00 03",
+        "01 00 02",
+        "01 00 0F",
+        "01 00 03 00",
+    ] {
+        assert_eq!(printed(&bytes(stored)), "refused K7\n", "{stored}");
+    }
+    // Recipe 9 in place of 3.
+    let bad = [bytes("01 00 0F"), bytes(&KEPT.replace("01 03", "01 09"))].concat();
+    assert_eq!(printed(&bad), "refused K7\n");
 }
 
 #[test]

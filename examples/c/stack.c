@@ -29,8 +29,31 @@ static void change_drum(uint8_t *stored)
     expected &= answer == KHUYAPESH_DONE;
 }
 
-/* A drum change; requests that are read, written and refused, their replies recorded and judged; then the same requests end
- * to end. The recording stays, for what follows. */
+/* As many batches as are added up at once, their sum as a text, and one batch more than that. */
+static void add_up(void)
+{
+    enum { MOST = KHUYAPESH_TOTALS_BATCHES };
+    static uint32_t raws[MOST + 1], factors[MOST + 1], recipes[MOST + 1], counts[KHUYAPESH_RECIPES];
+    static uint64_t sums[KHUYAPESH_RECIPES];
+    static uint8_t text[KHUYAPESH_FRAME_ROOM];
+    size_t index;
+
+    for (index = 0; index <= MOST; index++) {
+        raws[index] = 99999999;
+        factors[index] = 12000;
+        recipes[index] = KHUYAPESH_RECIPES;
+    }
+    expected &= khuyapesh_totals(raws, MOST, factors, MOST, recipes, MOST, sums, KHUYAPESH_RECIPES, counts,
+                                 KHUYAPESH_RECIPES) == KHUYAPESH_DONE;
+    expected &= counts[KHUYAPESH_RECIPES - 1] == MOST;
+    expected &= khuyapesh_units(sums[KHUYAPESH_RECIPES - 1], text, sizeof text) == 17;
+    expected &= memcmp(text, "119999998800.0000", 17) == 0;
+    expected &= khuyapesh_totals(raws, MOST + 1, factors, MOST + 1, recipes, MOST + 1, sums, KHUYAPESH_RECIPES, counts,
+                                 KHUYAPESH_RECIPES) == KHUYAPESH_TOTALS + 2;
+}
+
+/* A drum change; batches added up; requests that are read, written and refused, their replies recorded and judged; then the
+ * same requests end to end. The recording stays, for what follows. */
 static uint8_t recording[2048];
 static size_t recorded;
 
@@ -64,6 +87,7 @@ static void work(void)
     recorded = 5;
     khuyapesh_stored(stored, 0, copy, sizeof copy);
     change_drum(copy);
+    add_up();
     khuyapesh_stored(copy, 0, stored, sizeof stored);
     for (index = 0; index < sizeof texts / sizeof *texts; index++) {
         uint32_t sent = khuyapesh_build(0, (const uint8_t *)texts[index], strlen(texts[index]), request, sizeof request);
@@ -149,13 +173,16 @@ static void work_on_board(void)
 }
 
 /* A full bank, whose oldest batch gives its room to one more; its batches asked for, the first, the last and one more than
- * there are; then the same requests end to end, and the bank read and written. */
+ * there are; then the same requests end to end, and the bank read, written and added up. */
 static void work_with_bank(void)
 {
     static const char *const texts[] = {"01SB 500", "01SA", "01SP", "01ET", "01RT R 001", "01RT R 100", "01RT R 101"};
     static const uint8_t batch[] = {0, 1, 1, 0x1F, 0x40, 0, 0, 0, 0, 0, 0, 0};
     static uint8_t stored[KHUYAPESH_STORED_LENGTH], bank[KHUYAPESH_BANK_LENGTH], copy[KHUYAPESH_BANK_LENGTH];
     static uint8_t request[KHUYAPESH_FRAME_ROOM], reply[KHUYAPESH_FRAME_ROOM], stream[1024], replies[1024];
+    static uint8_t text[KHUYAPESH_TOTALS_ROOM];
+    static uint64_t sums[KHUYAPESH_RECIPES];
+    static uint32_t counts[KHUYAPESH_RECIPES];
     size_t streamed = 0, index, taken, answered, written;
 
     khuyapesh_stored(request, 0, stored, sizeof stored);
@@ -179,6 +206,11 @@ static void work_with_bank(void)
     expected &= bank[sizeof bank - 24 + 1] == 2 && bank[sizeof bank - 12 + 1] == 3;
     expected &= khuyapesh_bank(bank, sizeof bank, copy, sizeof copy) == KHUYAPESH_DONE;
     expected &= memcmp(bank, copy, sizeof bank) == 0;
+    /* all of recipe 1, and nothing flowed */
+    expected &= khuyapesh_bank_totals(bank, sizeof bank, sums, KHUYAPESH_RECIPES, counts, KHUYAPESH_RECIPES) == KHUYAPESH_DONE;
+    expected &= sums[0] == 0 && counts[0] == KHUYAPESH_BANK_BATCHES;
+    expected &= khuyapesh_totals_text(bank, sizeof bank, text, sizeof text, &written) == KHUYAPESH_DONE;
+    expected &= written == 14 && memcmp(text, "01 100 0.0000\n", 14) == 0;
 }
 
 static void run(void (*task)(void))

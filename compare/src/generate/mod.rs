@@ -11,3 +11,4 @@ pub mod refutations;
 pub mod requests;
 pub mod stored_forms;
 pub mod streams;
+pub mod weeks;

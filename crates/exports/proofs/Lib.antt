@@ -7,3 +7,4 @@ pub mod Drums
 pub mod Tells
 pub mod Banks
 pub mod BankTheorems
+pub mod Totals

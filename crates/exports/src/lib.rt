@@ -36,6 +36,8 @@ ghost use Rattle.drumstate.specs.State.{beginOf, takeOf};
 ghost use Rattle.recording.specs.Form as form;
 ghost use Rattle.recording.specs.Form.{exchangeAt};
 ghost use Rattle.judging.specs.Judge.{judgementOf, causedAs, whyOf};
+ghost use Rattle.totalling.specs.Totals.{answerNumber};
+ghost use Rattle.exports.specs.Totals.{totalsAnswer, totalsNumbers, bankTotalsNumbers, unitsBytes, textBytes};
 ghost use Rattle.exports.specs.Bytes.{silenceAnswer, storedAnswer, recordingAnswer, hostAnswer, kindOf, eventOf, openAnswer, openOf, callLeft, callBytes, severalNumbers, severalAs, severalLeft, severalBytes, bankAnswer, openBanked, openedAs, savedBank, bankedLeft, bankedBytes, bankedSeveralLeft, bankedSeveralBytes, bankBytes, heardAnswer, boardAnswer, answerLeft, Tellable, boardBytes, panelBytes, storedBytes, buildBytes, readBytes, drumAnswer, drumLeft, judgeNumbers, knownNumbers, learnNumbers, mayHoldNumber, whyAs, reasonNumbers, whyNumbers, foundAs, exchangeNumbers};
 
 // ---- the numbers that are answered
@@ -60,6 +62,9 @@ const DRUM: u32 = 600;
 
 const STOPPED: u32 = 700;
 
+// Added to the number of a refusal of totals.
+const TOTALS: u32 = 800;
+
 // The highest numbers of a kind and of an event.
 const LAST_KIND: u8 = 1;
 
@@ -71,7 +76,7 @@ const NO_ROOM: u32 = STORED + 6;
 // A bank of wrong version, length or field.
 const NO_BANK: u32 = STORED + 7;
 
-// No room for the sets.
+// No room for what is handed out: sets, sums or text.
 const SHORT_BUFFER: u32 = HOST + 1;
 
 // An exchange that is cut by the end.
@@ -504,6 +509,76 @@ pub extern "C" fn khuyapesh_bank(bank: &[u8], out: &mut [u8]) -> u32
         Written::ShortBuffer => NO_ROOM,
         Written::Whole => bank_answer(answer),
     }
+}
+
+// ---- week totals
+
+fn totals_answer(answer: totalling::Answer) -> u32
+    ensures { λ n. ⌜ n ≡ totalsAnswer (answerNumber answer) ⌝ }
+{
+    match answer {
+        totalling::Answer::Whole => 0,
+        totalling::Answer::Refused(why) => TOTALS + base::wide(totalling::number_of(why)),
+    }
+}
+
+// Adds up the batches of three lists.
+#[no_mangle]
+pub extern "C" fn khuyapesh_totals(
+    raws: &[u32],
+    factors: &[u32],
+    recipes: &[u32],
+    sums: &mut [u64],
+    counts: &mut [u32],
+) -> u32
+    ensures { λ n. ⌜ (n, (now (sums .exit), now (counts .exit))) ≡ totalsNumbers (now (raws .entry)) (now (factors .entry)) (now (recipes .entry)) (now (sums .entry)) (now (counts .entry)) ⌝ }
+{
+    let totals = totalling::add_up(raws, factors, recipes);
+    let answer = totals.answer;
+    if !totalling::lay(totals, sums, counts) {
+        return SHORT_BUFFER;
+    }
+    totals_answer(answer)
+}
+
+// Adds up the batches of a stored bank.
+#[no_mangle]
+pub extern "C" fn khuyapesh_bank_totals(bank: &[u8], sums: &mut [u64], counts: &mut [u32]) -> u32
+    ensures { λ n. ⌜ (n, (now (sums .exit), now (counts .exit))) ≡ bankTotalsNumbers (now (bank .entry)) (now (sums .entry)) (now (counts .entry)) ⌝ }
+{
+    let added = week::add_up(bank);
+    let answer = added.answer;
+    let totals = added.totals;
+    if !totalling::lay(totals, sums, counts) {
+        return SHORT_BUFFER;
+    }
+    bank_answer(answer)
+}
+
+// Writes a sum in units.
+#[no_mangle]
+pub extern "C" fn khuyapesh_units(sum: u64, out: &mut [u8]) -> u32
+    ensures { λ n. ⌜ (n, now (out .exit)) ≡ unitsBytes sum (now (out .entry)) ⌝ }
+{
+    if out.len() < sheet::LINE_ROOM {
+        return SHORT_BUFFER;
+    }
+    sheet::write_units(sum, out) as u32
+}
+
+// Writes what the program `totals` writes for a stored bank.
+#[no_mangle]
+pub extern "C" fn khuyapesh_totals_text(bank: &[u8], out: &mut [u8], written: &mut usize) -> u32
+    ensures { λ n. ⌜ (n, (now (written .exit), now (out .exit))) ≡ textBytes (now (bank .entry)) (now (out .entry)) ⌝ }
+{
+    if out.len() < sheet::ROOM {
+        *written = 0;
+        return SHORT_BUFFER;
+    }
+    let printed = week::write(bank, out);
+    let answer = printed.answer;
+    *written = printed.written;
+    bank_answer(answer)
 }
 
 // ---- several controllers on one board

@@ -1,27 +1,20 @@
 -- Laws of the judge's line: its parts one behind the other, over the start of the buffer. Assumes nothing.
 use mathlib.Core.Path.{_≡_, refl, ap, sym, _∙_}
 use mathlib.Core.List.{List, [], _∷_, _++_, append-assoc}
-use mathlib.Core.Logic.{⊎-elim}
-use Prim.Native.Nat.{ℕ, _+_, _-_, _≤_, _<_}
+use Prim.Native.Nat.{ℕ, _+_, _-_, _≤_}
 use native.Mathlib.Omega.{arith}
-use lib.ListN.{length, take, drop, length-append}
-use lib.Seq.{length-take-le}
-use borrow.Author.Tests.{le-leb, lt-leb}
-use Rattle.base.specs.Lists.{over}
-use Rattle.base.proofs.Tests.{below-or-not}
-use Rattle.base.proofs.Lists.{over-at-start}
-use Rattle.text.specs.Word.{decimal}
+use lib.ListN.{length, length-append}
+use Rattle.text.specs.Word.{newline, decimal}
 use Rattle.text.specs.Written.{writtenAt}
-use Rattle.text.proofs.Writing.{Laid, laid-same, joined, behind-written, decimal-high}
+use Rattle.text.proofs.Writing.{Laid, laid-same, joined, behind-written, decimal-high, first-none, first-laid}
 use Rattle.recording.specs.Form.{refusalNumber}
 use Rattle.recording.specs.Replay.{refuted}
-use Rattle.recording.specs.Statement as statement
 use Rattle.recording.specs.Statement.{judged}
 use Rattle.recording.specs.declared.Refusal.{Refusal}
 use Rattle.judging.specs.Judge.{judgementAs}
 use Rattle.judging.specs.declared.Judgement.{Judgement}
 use Rattle.judging.specs.declared.Judgement.the-variants as judgement
-use Rattle.line.specs.Line.{newline, lineOf, lineWritten}
+use Rattle.line.specs.Line.{lineOf, room, lineWritten}
 
 -- ---- a word and a number, and the end of the line behind them
 pub labelled-high : (w : List ℕ) (n : ℕ) → length (w ++ decimal n) ≤ length w + 20
@@ -50,35 +43,24 @@ refusedWord = 0x72 ∷ 0x65 ∷ 0x66 ∷ 0x75 ∷ 0x73 ∷ 0x65 ∷ 0x64 ∷ 0x2
 abbrev pub notJudgedWord : List ℕ
 notJudgedWord = 0x6e ∷ 0x6f ∷ 0x74 ∷ 0x20 ∷ 0x6a ∷ 0x75 ∷ 0x64 ∷ 0x67 ∷ 0x65 ∷ 0x64 ∷ 0x20 ∷ 0x61 ∷ 0x74 ∷ 0x20 ∷ []
 
-pub written-none : (j : statement.Judgement) (o : List ℕ) → length o < 64 → (0, o) ≡ lineWritten j o
-unfolding lineWritten
-written-none j o h = simp (lt-leb _ _ h)
-
-written : (j : statement.Judgement) (n : ℕ) (o o₁ : List ℕ) → 64 ≤ length o → Laid 0 (lineOf j) o n o₁ → (n, o₁) ≡ lineWritten j o
-unfolding lineWritten
-written j n o o₁ h a =
-    let l : n ≡ length (lineOf j) = omega (arith, a .0) in
-    let g : o₁ ≡ over (lineOf j) o = a .1 ∙ over-at-start (lineOf j) o in
-    simp (le-leb _ _ h, l, g)
-
 -- a word, a number and the end of the line, by the answer's case
-written-last : (a b : Judgement) (w : List ℕ) (m n : ℕ) (o o₁ : List ℕ) → lineOf (judgementAs b) ≡ w ++ (decimal n ++ newline) → 64 ≤ length o → a ≡ b
+written-last : (a b : Judgement) (w : List ℕ) (m n : ℕ) (o o₁ : List ℕ) → lineOf (judgementAs b) ≡ w ++ (decimal n ++ newline) → room ≤ length o → a ≡ b
     → Laid 0 (w ++ (decimal n ++ newline)) o m o₁ → (m, o₁) ≡ lineWritten (judgementAs a) o
 written-last a b w m n o o₁ is h e f =
-    written (judgementAs b) m o o₁ h (laid-same 0 m (w ++ (decimal n ++ newline)) (lineOf (judgementAs b)) o o₁ (sym is) f)
+    first-laid room m (lineOf (judgementAs b)) o o₁ h (laid-same 0 m (w ++ (decimal n ++ newline)) (lineOf (judgementAs b)) o o₁ (sym is) f)
     ∙ ap (λ (y : Judgement). lineWritten (judgementAs y) o) (sym e)
 
-pub written-fits : (a : Judgement) (m n : ℕ) (o o₁ : List ℕ) → 64 ≤ length o → a ≡ judgement.Fits n
+pub written-fits : (a : Judgement) (m n : ℕ) (o o₁ : List ℕ) → room ≤ length o → a ≡ judgement.Fits n
     → Laid 0 (fitsWord ++ (decimal n ++ newline)) o m o₁ → (m, o₁) ≡ lineWritten (judgementAs a) o
 unfolding lineOf
 written-fits a m n o o₁ h e f = written-last a (judgement.Fits n) fitsWord m n o o₁ refl h e f
 
-pub written-not-judged : (a : Judgement) (m i n : ℕ) (o o₁ : List ℕ) → 64 ≤ length o → a ≡ judgement.NotJudged i n
+pub written-not-judged : (a : Judgement) (m i n : ℕ) (o o₁ : List ℕ) → room ≤ length o → a ≡ judgement.NotJudged i n
     → Laid 0 (notJudgedWord ++ (decimal i ++ newline)) o m o₁ → (m, o₁) ≡ lineWritten (judgementAs a) o
 unfolding lineOf
 written-not-judged a m i n o o₁ h e f = written-last a (judgement.NotJudged i n) notJudgedWord m i o o₁ refl h e f
 
-pub written-refuted : (a : Judgement) (b i m n : ℕ) (o o₁ o₂ : List ℕ) → 64 ≤ length o → a ≡ judgement.Refuted i n
+pub written-refuted : (a : Judgement) (b i m n : ℕ) (o o₁ o₂ : List ℕ) → room ≤ length o → a ≡ judgement.Refuted i n
     → Laid 0 (refutedWord ++ decimal i) o b o₁ → Laid b (ofWord ++ (decimal n ++ newline)) o₁ m o₂ → (m, o₂) ≡ lineWritten (judgementAs a) o
 unfolding lineOf
 written-refuted a b i m n o o₁ o₂ h e f g =
@@ -86,29 +68,13 @@ written-refuted a b i m n o o₁ o₂ h e f g =
     let l : Laid 0 ((refutedWord ++ decimal i) ++ t) o m o₂ = joined 0 b m (refutedWord ++ decimal i) t o o₁ o₂ f g in
     let k : Laid 0 (refutedWord ++ (decimal i ++ t)) o m o₂ =
     laid-same 0 m ((refutedWord ++ decimal i) ++ t) (refutedWord ++ (decimal i ++ t)) o o₂ (append-assoc refutedWord (decimal i) t) l in
-    let w : (m, o₂) ≡ lineWritten (judged (refuted i n)) o = written (judged (refuted i n)) m o o₂ h k in
+    let w : (m, o₂) ≡ lineWritten (judged (refuted i n)) o = first-laid room m (lineOf (judged (refuted i n))) o o₂ h k in
     w ∙ ap (λ (y : Judgement). lineWritten (judgementAs y) o) (sym e)
 
-pub written-refused : (a : Judgement) (k : Refusal) (m n : ℕ) (o o₁ : List ℕ) → 64 ≤ length o → a ≡ judgement.Refused k → n ≡ refusalNumber k
+pub written-refused : (a : Judgement) (k : Refusal) (m n : ℕ) (o o₁ : List ℕ) → room ≤ length o → a ≡ judgement.Refused k → n ≡ refusalNumber k
     → Laid 0 (refusedWord ++ (decimal n ++ newline)) o m o₁ → (m, o₁) ≡ lineWritten (judgementAs a) o
 unfolding lineOf
 written-refused a k m n o o₁ h e i f =
     written-last a (judgement.Refused k) refusedWord m n o o₁ (ap (λ (j : ℕ). refusedWord ++ (decimal j ++ newline)) (sym i)) h e f
 
-pub ruleset writing = (written-none, written-fits, written-refuted, written-not-judged, written-refused)
-
--- ---- what is written lies within the buffer
-within : (n : ℕ) (t o o₁ : List ℕ) → _≡_ {A = ℕ × List ℕ} (n, o₁) (length t, over t o) → n ≤ length o₁
-unfolding over
-within n t o o₁ e = omega (arith, ap (λ (p : ℕ × List ℕ). p .0) e, ap (λ (p : ℕ × List ℕ). length (p .1)) e, length-append t (drop (length t) o))
-
-pub written-within : (j : statement.Judgement) (n : ℕ) (o o₁ : List ℕ) → (n, o₁) ≡ lineWritten j o → n ≤ length o₁
-unfolding lineWritten
-written-within j n o o₁ e =
-    ⊎-elim
-    (λ (h : length o < 64). omega (arith, ap (λ (p : ℕ × List ℕ). p .0) (e ∙ sym (written-none j o h))))
-    (λ (h : 64 ≤ length o). within n (lineOf j) o o₁ (simp (le-leb _ _ h) at e))
-    (below-or-not (length o) 64)
-
-pub written-count : (j : statement.Judgement) (n : ℕ) (o o₁ : List ℕ) → (n, o₁) ≡ lineWritten j o → n ≡ length (take n o₁)
-written-count j n o o₁ e = sym (length-take-le n o₁ (written-within j n o o₁ e))
+pub ruleset writing = (first-none, written-fits, written-refuted, written-not-judged, written-refused)

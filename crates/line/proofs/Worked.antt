@@ -21,7 +21,7 @@ use Rattle.base.specs.Test.{allBetween}
 use Rattle.state.specs.Parameter.{codeAt as parameterCode, rangeAt, placeOf, placeIn}
 use Rattle.frame.specs.Frame.{withinLimits, marksRight, checkRight, xorFrom, textIn, namesUnit, addressIn, frameOf}
 use Rattle.frame.specs.Answer.{addressOf, locateOf}
-use Rattle.text.specs.Word.{digits, widthIn, decimal, equal, valueFrom, numberFor}
+use Rattle.text.specs.Word.{newline, digits, widthIn, decimal, equal, valueFrom, numberFor}
 use Rattle.command.specs.Commands.{codeIn, formed, digitsBetween, rowOf, batchAsked}
 use Rattle.banked.specs.Banked.{asksHeard}
 use Rattle.command.specs.Request.{firstByText, firstByArguments, askedWith, askedFor, askedIn, guardsIn}
@@ -32,7 +32,7 @@ use Rattle.showing.specs.Shown.{shown, bitsShown, charactersShown, statusShown,
 use Rattle.learning.specs.Learn as through
 use Rattle.learning.specs.Learn.{heardOf, learnOf, refusedBy, moved}
 use Rattle.judging.proofs.Theorem.{judgement-right}
-use Rattle.line.specs.Line.{newline, lineOf}
+use Rattle.line.specs.Line.{lineOf}
 
 -- frames sent to the bench record one after the other, each with the reply that it must get;
 -- or a recording, how many bytes it has, its answer, and the line that is printed

@@ -8,9 +8,9 @@ ghost use mathlib.Core.List.{_++_};
 ghost use Prim.Native.Nat.{_+_, _≤_};
 ghost use lib.ListN.{length};
 ghost use Rattle.base.specs.Lists.{overAt};
-ghost use Rattle.text.specs.Word.{decimal};
+ghost use Rattle.text.specs.Word.{newline, decimal};
 ghost use Rattle.judging.specs.Judge.{judgementAs};
-ghost use Rattle.line.specs.Line.{newline, lineWritten};
+ghost use Rattle.line.specs.Line.{lineWritten};
 
 // Room for any line.
 pub const ROOM: usize = 64;

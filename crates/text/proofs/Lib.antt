@@ -1,3 +1,4 @@
 pub mod Words
 pub mod Writing
 pub mod Printable
+pub mod Decimal

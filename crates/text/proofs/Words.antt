@@ -23,13 +23,13 @@ pub record Digit (x : ℕ) : Type 0 where
   pub low : 0x30 ≤ x
   pub high : x ≤ 0x39
 
-digit-first : (x : ℕ) (xs : List ℕ) → allDigits (x ∷ xs) ≡ true → Digit x
+pub digit-first : (x : ℕ) (xs : List ℕ) → allDigits (x ∷ xs) ≡ true → Digit x
 unfolding allBetween
 digit-first x xs h =
     let d : between 0x30 0x39 x ≡ true = and-left (between 0x30 0x39 x) (allDigits xs) h in
     record { low = between-low 0x30 0x39 x d; high = between-high 0x30 0x39 x d }
 
-digit-rest : (x : ℕ) (xs : List ℕ) → allDigits (x ∷ xs) ≡ true → allDigits xs ≡ true
+pub digit-rest : (x : ℕ) (xs : List ℕ) → allDigits (x ∷ xs) ≡ true → allDigits xs ≡ true
 unfolding allBetween
 digit-rest x xs h = and-right (between 0x30 0x39 x) (allDigits xs) h
 

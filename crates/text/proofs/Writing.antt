@@ -10,11 +10,11 @@ use lib.ListN.{length, take, drop, getD, set, length-append, length-drop, length
 use lib.Seq.{drop-length, length-take-le, take-all, take-suc}
 use borrow.Rule.Slice.PartMut.{putMid}
 use borrow.Author.Tests.{le-leb, lt-leb, le-ltb, lt-ltb}
-use Rattle.base.specs.Lists.{overAt}
+use Rattle.base.specs.Lists.{over, overAt}
 use Rattle.base.proofs.Tests.{below-or-not}
 use Rattle.base.proofs.Lists.{over-take, over-at-none, over-at-start, over-at-length, over-at-append, over-at-put, over-at-part, fill-before}
 use Rattle.text.specs.Word.{digits, widthIn, decimal}
-use Rattle.text.specs.Written.{writtenAt}
+use Rattle.text.specs.Written.{writtenAt, writtenFirst}
 use Rattle.text.proofs.Words.{digits-length}
 
 -- ---- a writer's answer: the place behind the bytes, and the buffer with them
@@ -126,15 +126,15 @@ unfolding decimal
 decimal-written at w n r o o₁ e h = h ∙ ap (λ (k : ℕ). writtenAt at (digits k n) o) e
 
 -- ---- how wide a number is
-width-more : (k n : ℕ) → 10 ≤ n → widthIn (suc k) n ≡ suc (widthIn k (n / 10))
+pub width-more : (k n : ℕ) → 10 ≤ n → widthIn (suc k) n ≡ suc (widthIn k (n / 10))
 unfolding widthIn
 width-more k n h = simp (le-ltb _ _ h)
 
-width-none : (n : ℕ) → widthIn 0 n ≡ 1
+pub width-none : (n : ℕ) → widthIn 0 n ≡ 1
 unfolding widthIn
 width-none n = refl
 
-width-one : (k n : ℕ) → n < 10 → widthIn k n ≡ 1
+pub width-one : (k n : ℕ) → n < 10 → widthIn k n ≡ 1
 unfolding widthIn
 width-one zero n h = refl
 width-one (suc k) n h = simp (lt-ltb _ _ h)
@@ -171,3 +171,31 @@ digits-high w n = omega (arith, digits-length w n)
 pub decimal-high : (n : ℕ) → length (decimal n) ≤ 20
 unfolding decimal
 decimal-high n = omega (arith, digits-high (widthIn 19 n) n, width-high 19 n)
+
+-- ---- a text over the start of a buffer that has the room for it
+pub first-none : (room : ℕ) (t o : List ℕ) → length o < room → (0, o) ≡ writtenFirst room t o
+unfolding writtenFirst
+first-none room t o h = simp (lt-leb _ _ h)
+
+pub first-laid : (room n : ℕ) (t o o₁ : List ℕ) → room ≤ length o → Laid 0 t o n o₁ → (n, o₁) ≡ writtenFirst room t o
+unfolding writtenFirst
+first-laid room n t o o₁ h a =
+    let l : n ≡ length t = omega (arith, a .0) in
+    let g : o₁ ≡ over t o = a .1 ∙ over-at-start t o in
+    simp (le-leb _ _ h, l, g)
+
+-- what is written lies within the buffer
+over-within : (n : ℕ) (t o o₁ : List ℕ) → _≡_ {A = ℕ × List ℕ} (n, o₁) (length t, over t o) → n ≤ length o₁
+unfolding over
+over-within n t o o₁ e = omega (arith, ap (λ (p : ℕ × List ℕ). p .0) e, ap (λ (p : ℕ × List ℕ). length (p .1)) e, length-append t (drop (length t) o))
+
+pub first-within : (room n : ℕ) (t o o₁ : List ℕ) → (n, o₁) ≡ writtenFirst room t o → n ≤ length o₁
+unfolding writtenFirst
+first-within room n t o o₁ e =
+    ⊎-elim
+    (λ (h : length o < room). omega (arith, ap (λ (p : ℕ × List ℕ). p .0) (e ∙ sym (first-none room t o h))))
+    (λ (h : room ≤ length o). over-within n t o o₁ (simp (le-leb _ _ h) at e))
+    (below-or-not (length o) room)
+
+pub first-count : (room n : ℕ) (t o o₁ : List ℕ) → (n, o₁) ≡ writtenFirst room t o → n ≡ length (take n o₁)
+first-count room n t o o₁ e = sym (length-take-le n o₁ (first-within room n t o o₁ e))

@@ -11,6 +11,10 @@ use Rattle.text.specs.declared.Digits.the-variants as digitsRead
 abbrev pub space : ℕ
 space = 0x20
 
+-- the end of a line
+abbrev pub newline : List ℕ
+newline = 0x0a ∷ []
+
 -- ---- "Digits are ASCII; every printed number has its full width with leading zeros."
 
 -- the last w decimal digits of n

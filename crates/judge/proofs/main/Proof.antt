@@ -1,6 +1,6 @@
 -- `judge::main` is safe and ends: what was read lies within the buffer, and so does the line that was written. Assumes nothing.
 use borrow.Author.Needs.{needs}
-use Rattle.line.proofs.Laws.{written-within, written-count}
+use Rattle.text.proofs.Writing.{first-within, first-count}
 use Rattle.judge.proofs.main.Statement.{statement}
 use Rattle.judge.proofs.main.Tie as tie
 
@@ -16,7 +16,7 @@ main-spec =
     (λ c κs. search needs)
     (λ c. search needs)
     (λ c κs. search needs)
-    (λ c. search written-within)
-    (λ c. search written-count)
+    (λ c. search first-within)
+    (λ c. search first-count)
     (λ c κs. search needs)
     (λ c. search needs))
