@@ -24,6 +24,11 @@ pub in-ranges : (v f r : ℕ) (a b c : Bool) → a ≡ within (kindRange Factor)
 unfolding inRange
 in-ranges v f r a b c e₁ e₂ e₃ = simp (e₁, e₂, e₃)
 
+-- ---- the sum of a recipe
+pub at-recipe : (f : Entry → ℕ) (es : List Entry) (r : ℕ) → 1 ≤ r → r ≤ recipes → getD (byRecipe f es) (r - 1) 0 ≡ sumOver (ofRecipe r f) es
+at-recipe f es r low high =
+    table-at (λ q. sumOver (ofRecipe q f) es) 1 recipes (r - 1) (omega arith) ∙ ap (λ (q : ℕ). sumOver (ofRecipe q f) es) (omega arith)
+
 -- ---- one entry more, for a sum of each recipe
 pub by-recipe-more : (f : Entry → ℕ) (es : List Entry) (e : Entry) → 1 ≤ e .recipe → e .recipe ≤ recipes
     → set (byRecipe f es) (e .recipe - 1) (getD (byRecipe f es) (e .recipe - 1) 0 + f e) ≡ byRecipe f (es ++ (e ∷ []))
@@ -97,10 +102,9 @@ module _ {vs fs rs sums counts : List ℕ} {i : ℕ} (s : Added vs fs rs sums co
     held-high : (f : Entry → ℕ) (m : ℕ) (xs : List ℕ) → xs ≡ byRecipe f (take i es) → ((x : Entry) → inRange x ≡ true → f x ≤ m)
         → getD xs (getD rs i 0 - 1) 0 ≤ length (take i es) * m
     held-high f m xs w h =
-        let at : getD rs i 0 - 1 < recipes = let x = batch .recipe-low in let y = batch .recipe-high in omega arith in
-        let q : getD xs (getD rs i 0 - 1) 0 ≡ sumOver (ofRecipe (1 + (getD rs i 0 - 1)) f) (take i es) =
-        ap (λ (x : List ℕ). getD x (getD rs i 0 - 1) 0) w ∙ table-at (λ r. sumOver (ofRecipe r f) (take i es)) 1 recipes (getD rs i 0 - 1) at in
-        omega (arith, sum-high (1 + (getD rs i 0 - 1)) f m h (take i es) (s .in-range))
+        let q : getD xs (getD rs i 0 - 1) 0 ≡ sumOver (ofRecipe (getD rs i 0) f) (take i es) =
+        ap (λ (x : List ℕ). getD x (getD rs i 0 - 1) 0) w ∙ at-recipe f (take i es) (getD rs i 0) (batch .recipe-low) (batch .recipe-high) in
+        omega (arith, sum-high (getD rs i 0) f m h (take i es) (s .in-range))
 
     pub room : Room s
     room =

@@ -1,5 +1,5 @@
 -- Laws of the batches at the places of three lists, of their ranges and of their sums. Assumes nothing.
-use Prim.Native.Nat.{ℕ, zero, suc, _+_, _*_, _^_, _≤_, _<_}
+use Prim.Native.Nat.{ℕ, zero, suc, _+_, _-_, _*_, _^_, _≤_, _<_}
 use mathlib.Core.Bool.{Bool, true, false, _&&_}
 use mathlib.Core.Path.{_≡_, refl, ap}
 use mathlib.Core.List.{List, [], _∷_, _++_}
@@ -100,4 +100,6 @@ sum-high r f m h (e ∷ es) a =
 -- the product of two numbers of 32 bits has 64
 pub product-fits : (a b : ℕ) → a < 2 ^ 32 → b < 2 ^ 32 → a * b < 2 ^ 64
 product-fits a b h k =
-    let m : a * b ≤ 4294967295 * 4294967295 = mul-le-mul (let x : a ≤ 4294967295 = omega arith in x) (let y : b ≤ 4294967295 = omega arith in y) in omega arith
+    let x : a ≤ 2 ^ 32 - 1 = omega arith in
+    let y : b ≤ 2 ^ 32 - 1 = omega arith in
+    let m : a * b ≤ (2 ^ 32 - 1) * (2 ^ 32 - 1) = mul-le-mul x y in omega arith

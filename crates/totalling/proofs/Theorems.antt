@@ -13,24 +13,25 @@ use Rattle.base.proofs.Tests.{and-left, and-right, and-yes}
 use Rattle.base.proofs.FirstFailing.{FirstFailing, NoneFails, failing, failing-exactly, none-exactly}
 use Rattle.state.specs.Parameter.{recipes}
 use Rattle.totalling.specs.Totals.{Entry, entry, entries, amount, one, sumOver, ofRecipe, byRecipe, added, most, equalLengths, inRange, allInRange, Outcome, refusedBy, addedUp, totalsOf}
-use Rattle.totalling.proofs.Tables.{table-at, table-same}
+use Rattle.totalling.proofs.Tables.{table-same}
 use Rattle.totalling.proofs.Entries.{noEntry, entries-length, entries-at, mostAmount, ranged, sum-high}
+use Rattle.totalling.proofs.Adding.{at-recipe}
 use Rattle.totalling.proofs.AddUp.{by-recipe-adds-up, ones}
 use Rattle.totalling.proofs.Order.{sum-any-order, ranges-any-order}
-
--- the number of a recipe
-at-recipe : (f : Entry → ℕ) (es : List Entry) (r : ℕ) → 1 ≤ r → r ≤ recipes → getD (byRecipe f es) (r - 1) 0 ≡ sumOver (ofRecipe r f) es
-at-recipe f es r low high =
-    table-at (λ q. sumOver (ofRecipe q f) es) 1 recipes (r - 1) (omega arith) ∙ ap (λ (q : ℕ). sumOver (ofRecipe q f) es) (omega arith)
 
 by-recipe-same : (f : Entry → ℕ) (xs ys : List Entry) → Perm xs ys → byRecipe f xs ≡ byRecipe f ys
 by-recipe-same f xs ys p =
     table-same (λ r. sumOver (ofRecipe r f) xs) (λ r. sumOver (ofRecipe r f) ys) 1 recipes (λ r l. sum-any-order xs ys p (ofRecipe r f))
 
+-- the lengths are equal
+lengths-so : (vs fs rs : List ℕ) → equalLengths vs fs rs ≡ true → (length vs ≡ length fs) × (length vs ≡ length rs)
+lengths-so vs fs rs a = (
+  eqb-true (length vs) (length fs) (and-left (eqb (length vs) (length fs)) (eqb (length vs) (length rs)) a),
+  eqb-true (length vs) (length rs) (and-right (eqb (length vs) (length fs)) (eqb (length vs) (length rs)) a),
+)
+
 equal-length : (vs fs rs : List ℕ) → equalLengths vs fs rs ≡ true → length (entries vs fs rs) ≡ length vs
-equal-length vs fs rs a =
-    entries-length vs fs rs (eqb-true (length vs) (length fs) (and-left (eqb (length vs) (length fs)) (eqb (length vs) (length rs)) a))
-    (eqb-true (length vs) (length rs) (and-right (eqb (length vs) (length fs)) (eqb (length vs) (length rs)) a))
+equal-length vs fs rs a = let l = lengths-so vs fs rs a in entries-length vs fs rs (l .0) (l .1)
 
 -- ---- W1, W2, W3
 module _ (vs fs rs : List ℕ) where
@@ -125,8 +126,8 @@ module _ (vs fs rs : List ℕ) (h : totalsOf vs fs rs .refused ≡ 0) where
       let m : leb (length vs) most ≡ true = hold 1 in
       let i : allInRange (entries vs fs rs) ≡ true = hold 2 in
       record {
-        same-factors = eqb-true (length vs) (length fs) (and-left (eqb (length vs) (length fs)) (eqb (length vs) (length rs)) l);
-        same-recipes = eqb-true (length vs) (length rs) (and-right (eqb (length vs) (length fs)) (eqb (length vs) (length rs)) l);
+        same-factors = lengths-so vs fs rs l .0;
+        same-recipes = lengths-so vs fs rs l .1;
         few = leb-true (length vs) most m;
         in-range = i;
         whole = simp (l, m, i);
