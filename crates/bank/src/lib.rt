@@ -1,4 +1,5 @@
 // The finished batches that are kept, oldest first.
+#![tactic(auto)]
 ghost use Rattle.std.specs.Prelude.{◌≡◌};
 ghost use Rattle.bank.specs.Bank.{batch_valid, batch_of, valid, keep_of, no_batch, newest_of, empty_bank};
 
@@ -10,7 +11,7 @@ use state::{
 // How many batches a bank has room for.
 pub const MOST: usize = 100;
 
-#[derive(Drop)]
+#[derive(Clone, Copy)]
 pub struct Batch {
     pub number: u16,
     pub recipe: u8,
@@ -20,14 +21,14 @@ pub struct Batch {
 }
 
 // The first `count` are kept; the others are free room.
-#[derive(Drop)]
+#[derive(Clone, Copy)]
 pub struct Bank {
     pub count: usize,
     pub batches: [Batch; MOST],
 }
 
 // The batch that is asked for, if it is kept.
-#[derive(Drop)]
+#[derive(Clone, Copy)]
 pub enum Newest {
     Batch(Batch),
     Nothing,

@@ -1,4 +1,5 @@
 // One call of the controller with a bank of finished batches beside its record.
+#![tactic(auto)]
 ghost use Rattle.std.specs.Prelude.{◌≡◌};
 ghost use Rattle.controller.specs.Call.{outcome_as};
 ghost use Rattle.banked.specs.Banked.{with, valid, reply_of, banked_of};
@@ -12,14 +13,14 @@ use reply::Kept;
 use state::{DONE, IDLE, Record, STOPPED};
 
 // The record, and the bank beside it.
-#[derive(Drop)]
+#[derive(Clone, Copy)]
 pub struct Banked {
     pub state: Record,
     pub bank: Bank,
 }
 
 // The answer, and what is held afterwards.
-#[derive(Drop)]
+#[derive(Clone, Copy)]
 pub struct Called {
     pub answer: Answer,
     pub after: Banked,

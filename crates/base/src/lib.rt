@@ -1,4 +1,6 @@
 // Tests on numbers that the other crates share.
+#![tactic(auto)]
+
 ghost use Rattle.std.specs.Prelude.{◌≡◌, ◌<◌};
 ghost use Rattle.base.specs.Test.{between, all_between, member};
 

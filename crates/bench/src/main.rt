@@ -1,5 +1,6 @@
 // Runs the examples, limits and traps of documents 01 and 02: one case to a line of the input, written back with what it gets.
 // The input itself says at its start what each kind of line is.
+#![tactic(auto)]
 mod answers;
 mod fields;
 mod print;

@@ -1,4 +1,5 @@
 // One board with up to sixteen records: a request goes to the record with its address.
+#![tactic(auto)]
 ghost use Rattle.std.specs.Prelude.{◌≡◌, not, ◌≤◌, eqb};
 ghost use Rattle.base.specs.Test.{all_distinct};
 ghost use Rattle.controller.specs.Call.{call_of};
@@ -12,7 +13,7 @@ use state::Record;
 pub const RECORDS: usize = 16;
 
 // Why a list of records is refused; these come in place of S1.
-#[derive(Drop)]
+#[derive(Clone, Copy)]
 pub enum Refusal {
     // S9
     ListLength,
@@ -33,7 +34,7 @@ pub fn number_of(refusal: Refusal) -> u8
     }
 }
 
-#[derive(Drop)]
+#[derive(Clone, Copy)]
 pub enum Answer {
     // S9 to S11
     Refused(Refusal),
@@ -57,7 +58,7 @@ impl Answer {
 }
 
 // What was seen of the list so far.
-#[derive(Drop)]
+#[derive(Clone, Copy)]
 struct Seen {
     // How many records there are.
     count: usize,
@@ -68,14 +69,14 @@ struct Seen {
 }
 
 // The place of the record that the request goes to, or none below the number of records, and the answer for that.
-#[derive(Drop)]
+#[derive(Clone, Copy)]
 struct Found {
     at: usize,
     why: Answer,
 }
 
 // The answer, and the addressed record afterwards.
-#[derive(Drop)]
+#[derive(Clone, Copy)]
 struct Served {
     answer: Answer,
     after: Record,

@@ -1,4 +1,5 @@
 // A request's text as a value, what refuses it, and what it changes.
+#![tactic(auto)]
 ghost use Rattle.std.specs.Prelude.{◌≡◌, true, false, ◌≤◌, ◌<◌};
 ghost use Rattle.state.specs.Field.{Field, get, put};
 ghost use Rattle.base.specs.Test.{pick, member};
@@ -15,7 +16,7 @@ use state::{
 use text::{Digits, is_word, read_number};
 
 // What a request asks to be shown; a parameter is given by its place.
-#[derive(Drop)]
+#[derive(Clone, Copy)]
 pub enum Reading {
     // EQ
     Status,
@@ -38,7 +39,7 @@ pub enum Reading {
 }
 
 // What a request asks to be changed.
-#[derive(Drop)]
+#[derive(Clone, Copy)]
 pub enum Writing {
     // PC
     SetValue(usize, u32),
@@ -63,7 +64,7 @@ pub enum Writing {
 }
 
 // What a text asks for, its numbers in range; or what refuses it whatever the record.
-#[derive(Drop)]
+#[derive(Clone, Copy)]
 pub enum Request {
     Refused(Refusal),
     Read(Reading),
@@ -71,7 +72,7 @@ pub enum Request {
 }
 
 // Why a request is refused.
-#[derive(Drop)]
+#[derive(Clone, Copy)]
 pub enum Refusal {
     // NO00
     UnknownCode,
@@ -113,14 +114,14 @@ pub fn number_of(refusal: Refusal) -> u32
     }
 }
 
-#[derive(Drop)]
+#[derive(Clone, Copy)]
 pub enum Decision {
     Accepted,
     Refused(Refusal),
 }
 
 // The phases in which a write is not refused.
-#[derive(Drop)]
+#[derive(Clone, Copy)]
 pub enum Phases {
     Any,
     IdleOrDone,
@@ -130,7 +131,7 @@ pub enum Phases {
 }
 
 // What may refuse a write by the record.
-#[derive(Drop)]
+#[derive(Clone, Copy)]
 pub struct Guards {
     // NO02: the keypad.
     pub keypad: bool,
@@ -145,7 +146,7 @@ pub struct Guards {
 }
 
 // What is replied.
-#[derive(Drop)]
+#[derive(Clone, Copy)]
 pub enum Answer {
     No(Refusal),
     Shows(Reading),
@@ -153,14 +154,14 @@ pub enum Answer {
 }
 
 // The kept batch that a text asks for, by its number.
-#[derive(Drop)]
+#[derive(Clone, Copy)]
 pub enum BatchAsked {
     Number(u32),
     Nothing,
 }
 
 // A parameter's place and a number, 0 where the form has none.
-#[derive(Drop)]
+#[derive(Clone, Copy)]
 enum Numbers {
     Read(usize, u32),
     Malformed,
@@ -640,13 +641,13 @@ pub fn apply(mut r: Record, request: Writing) -> Record
 }
 
 // ---- a request served: the answer, and the effect that the record has still to take
-#[derive(Drop)]
+#[derive(Clone, Copy)]
 pub enum Effect {
     Nothing,
     Write(Writing),
 }
 
-#[derive(Drop)]
+#[derive(Clone, Copy)]
 pub struct Served {
     pub answer: Answer,
     pub effect: Effect,

@@ -1,4 +1,5 @@
 // One call of the controller: a request frame in, a reply frame or a named silence out.
+#![tactic(auto)]
 ghost use Rattle.std.specs.Prelude.{◌≡◌, length};
 ghost use Rattle.command.specs.Request.{effect_as};
 ghost use Rattle.controller.specs.Call.{answer_length, outcome_as, silent_as, reply_of, call_of, hearing_of, heard_as};
@@ -7,7 +8,7 @@ use command::Effect;
 use frame::{Addressed, Kind, ROOM, Silence};
 use state::Record;
 
-#[derive(Drop)]
+#[derive(Clone, Copy)]
 pub enum Answer {
     // S1 to S8
     Silent(Silence),
@@ -28,7 +29,7 @@ impl Answer {
 }
 
 // What a request gets before its text is looked at.
-#[derive(Drop)]
+#[derive(Clone, Copy)]
 pub enum Heard {
     // S1 to S8
     Silent(Silence),
@@ -37,14 +38,14 @@ pub enum Heard {
 }
 
 // The answer, and the record afterwards.
-#[derive(Drop)]
+#[derive(Clone, Copy)]
 pub struct Called {
     pub answer: Answer,
     pub after: Record,
 }
 
 // The answer, and the effect that the record has still to take.
-#[derive(Drop)]
+#[derive(Clone, Copy)]
 pub struct Replied {
     pub answer: Answer,
     pub effect: Effect,

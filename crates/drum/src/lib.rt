@@ -1,5 +1,6 @@
 // Drum change on the two-drum skid: the requests to a unit, in turn, and the replies that let it go on. A batch is set only after
 // the unit has shown that it holds the picked recipe and factor.
+#![tactic(auto)]
 ghost use Rattle.std.specs.Prelude.{◌≡◌, ◌++◌, ◌+◌, ◌≤◌, length};
 ghost use Rattle.base.specs.Lists.{over_at};
 ghost use Rattle.text.specs.Word.{digits, equal};
@@ -15,7 +16,7 @@ use state::{ADDRESS_RANGE, FACTOR_RANGE, PRESET_RANGE, RECIPE_RANGE, Range, with
 use text::{is_word, put_digits, put_word};
 
 // What the foreman picked, and how far the change is.
-#[derive(Drop)]
+#[derive(Clone, Copy)]
 pub struct Change {
     pub address: u8,
     pub recipe: u8,
@@ -25,7 +26,7 @@ pub struct Change {
     pub step: u8,
 }
 
-#[derive(Drop)]
+#[derive(Clone, Copy)]
 pub enum Refusal {
     // Q0
     Address,
@@ -53,7 +54,7 @@ pub fn number_of(refusal: Refusal) -> u8
 }
 
 // What a change answers.
-#[derive(Drop)]
+#[derive(Clone, Copy)]
 pub enum Answer {
     Refused(Refusal),
     // The lent buffer is under 64 bytes (H1).
@@ -67,7 +68,7 @@ pub enum Answer {
 }
 
 // The answer, and the change as it then is.
-#[derive(Drop)]
+#[derive(Clone, Copy)]
 pub struct Handled {
     pub answer: Answer,
     pub after: Change,
@@ -93,7 +94,7 @@ const STOPPED: u8 = 10;
 // ---- the texts
 
 // Two letters, and up to two numbers behind them, each with the digits that it is written with; no digits, no number.
-#[derive(Drop)]
+#[derive(Clone, Copy)]
 struct Message {
     pub letter: u8,
     pub letter2: u8,
@@ -213,7 +214,7 @@ fn is_right(s: Change, reply: &[u8]) -> bool
 // ---- the change
 
 // Whether the picks are in their ranges; if not, the first that is not.
-#[derive(Drop)]
+#[derive(Clone, Copy)]
 pub enum Picks {
     Good,
     Out(Refusal),

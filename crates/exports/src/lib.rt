@@ -1,4 +1,5 @@
 // The functions of include/khuyapesh.h, for C and Rust: bytes and numbers in, bytes and numbers out.
+#![tactic(auto)]
 ghost use Rattle.std.specs.Prelude.{◌≡◌, ◌≤◌, leb};
 ghost use Rattle.stored.specs.Layout.{current};
 ghost use Rattle.stored.specs.Form.{K, refusal_number, answer_as, stored_length};
@@ -265,7 +266,7 @@ pub extern "C" fn khuyapesh_call(
 }
 
 // The answer, and what is reported.
-#[derive(Drop)]
+#[derive(Clone, Copy)]
 struct Numbers {
     pub answer: u32,
     pub report: Report,
@@ -341,7 +342,7 @@ pub extern "C" fn khuyapesh_several(
 // ---- with a bank beside the record
 
 // 0, or the answer of a refusal, and what is held.
-#[derive(Drop)]
+#[derive(Clone, Copy)]
 struct Opened {
     pub answer: u32,
     pub held: Banked,
@@ -851,7 +852,7 @@ pub extern "C" fn khuyapesh_may_hold(field: usize, set: u32, number: u32) -> u32
 }
 
 // The answer, and what is told beside it.
-#[derive(Drop)]
+#[derive(Clone, Copy)]
 struct WhyNumbers {
     pub answer: u32,
     pub place: usize,
@@ -914,7 +915,7 @@ pub extern "C" fn khuyapesh_why(
 }
 
 // The answer, and where the exchange has its request and its reply.
-#[derive(Drop)]
+#[derive(Clone, Copy)]
 struct Found {
     pub answer: u32,
     pub spans: Spans,

@@ -1,4 +1,6 @@
 // Frames of the link: their form for either kind, and the host side that builds and reads them.
+#![tactic(auto)]
+
 ghost use Rattle.std.specs.Prelude.{◌≡◌, ◌+◌, ◌≤◌, length, take, drop};
 ghost use Rattle.frame.specs.Frame.{xor_from, is_text, all_text, frame_of, tail_of, within_limits, marks_right, check_right, names_unit};
 ghost use Rattle.base.specs.Test.{between};
@@ -7,14 +9,14 @@ ghost use Rattle.base.specs.Lists.{over};
 ghost use Rattle.frame.specs.Numbers.{silence_number, length_in, built_as, located_as, read_as, addressed_as};
 
 // The two kinds of link.
-#[derive(Drop)]
+#[derive(Clone, Copy)]
 pub enum Kind {
     Minicomputer,
     Terminal,
 }
 
 // Why a request gets no reply, in the order of the tests.
-#[derive(Drop)]
+#[derive(Clone, Copy)]
 pub enum Silence {
     // S1
     InvalidRecord,
@@ -51,7 +53,7 @@ pub fn number_of(silence: Silence) -> u8
 }
 
 // What building a frame answers.
-#[derive(Drop)]
+#[derive(Clone, Copy)]
 pub enum Built {
     // H1
     ShortBuffer,
@@ -64,7 +66,7 @@ pub enum Built {
 }
 
 // Where a frame's text lies.
-#[derive(Drop)]
+#[derive(Clone, Copy)]
 pub enum Located {
     // S3 to S6
     Silent(Silence),
@@ -73,7 +75,7 @@ pub enum Located {
 }
 
 // What reading a frame's text answers.
-#[derive(Drop)]
+#[derive(Clone, Copy)]
 pub enum TextRead {
     // H1
     ShortBuffer,
@@ -84,7 +86,7 @@ pub enum TextRead {
 }
 
 // Whom a frame is for.
-#[derive(Drop)]
+#[derive(Clone, Copy)]
 pub enum Addressed {
     // S3 to S7
     Silent(Silence),

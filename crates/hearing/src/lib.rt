@@ -1,4 +1,5 @@
 // One exchange: what it says before any record is looked at, and what it teaches of the record.
+#![tactic(auto)]
 ghost use Rattle.std.specs.Prelude.{◌≡◌};
 ghost use Rattle.frame.specs.declared.Kind.TheVariants.{Minicomputer};
 ghost use Rattle.banked.specs.Banked.{asks_heard};
@@ -10,7 +11,7 @@ use frame::{Addressed, Kind, Located, ROOM, Silence};
 use knowledge::Knowledge;
 use text::is_word;
 
-#[derive(Drop)]
+#[derive(Clone, Copy)]
 pub enum Said {
     // Silence was due, and kept.
     Quiet,

@@ -1,4 +1,5 @@
 // Judges the recording on standard input, and writes the answer as one line to standard output.
+#![tactic(auto)]
 use libc::{STDIN_FILENO, STDOUT_FILENO};
 
 // A recording has under 65,536 bytes, so an input that fills the buffer is refused whatever comes behind it.

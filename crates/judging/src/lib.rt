@@ -1,5 +1,6 @@
 // The judge: whether any correct controller could have produced a recording, and if not, where it broke and why; and what is known of
 // the controller's record on the way.
+#![tactic(auto)]
 ghost use Rattle.std.specs.Prelude.{◌≡◌};
 ghost use Rattle.recording.specs.Statement.{Demand3};
 ghost use Rattle.recording.specs.Known.{RightlyTold, RightlyReasoned};
@@ -10,7 +11,7 @@ use reason::Reason;
 use recording::{Next, Read, Refusal};
 
 // Fits N, refuted at I of N, not judged at I of N, or refused.
-#[derive(Drop)]
+#[derive(Clone, Copy)]
 pub enum Judgement {
     Fits(usize),
     Refuted(usize, usize),
@@ -19,7 +20,7 @@ pub enum Judgement {
 }
 
 // Refused, the exchange that refutes, the one at which it is not judged, or the sets.
-#[derive(Drop)]
+#[derive(Clone, Copy)]
 pub enum Told {
     Refused(Refusal),
     Refuted(usize),
@@ -28,14 +29,14 @@ pub enum Told {
 }
 
 // What is told, and the code of each field's set; beside all but sets no set has a number.
-#[derive(Drop)]
+#[derive(Clone, Copy)]
 pub struct Findings {
     pub told: Told,
     pub codes: [u32; FIELDS],
 }
 
 // Refused, fits N, not judged at I of N, or refuted at I of N and why.
-#[derive(Drop)]
+#[derive(Clone, Copy)]
 pub enum Cause {
     Refused(Refusal),
     Fits(usize),
@@ -45,7 +46,7 @@ pub enum Cause {
 
 // How far the exchanges were followed: how many passed, where the next one starts, and what is known then; dead if that one refutes. If it
 // does not, and there is a next one, that one asks for a kept batch.
-#[derive(Drop)]
+#[derive(Clone, Copy)]
 pub struct Progress {
     pub passed: usize,
     pub at: usize,

@@ -1,4 +1,5 @@
 // What is known of a controller's record: one set for each field, as a code at the field's position.
+#![tactic(auto)]
 ghost use Rattle.std.specs.Prelude.{◌≡◌, ◌≤◌};
 ghost use Rattle.base.specs.Test.{pick};
 ghost use Rattle.state.specs.Alarm.{all_alarms};
@@ -85,7 +86,7 @@ const ALL_ALARMS: u32 = ALARMS_RANGE.high;
 const ANY_LASTING: u32 = ALL_ALARMS + 1;
 
 // Alive if a record is possible.
-#[derive(Drop)]
+#[derive(Clone, Copy)]
 pub struct Knowledge {
     pub alive: bool,
     pub codes: [u32; FIELDS],

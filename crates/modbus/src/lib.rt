@@ -1,4 +1,5 @@
 // A Modbus RTU slave over the controller's parameters: a request frame in, a reply frame or a named silence out.
+#![tactic(auto)]
 ghost use Rattle.std.specs.Prelude.{◌≡◌, [], ◌∷◌, ◌++◌, ◌+◌, ◌*◌, ◌≤◌, ◌<◌, length, take};
 ghost use Rattle.base.specs.Lists.{over};
 ghost use Rattle.command.specs.Request.{refusal_number, effect_as};
@@ -13,7 +14,7 @@ use command::{Effect, Refusal};
 use state::{PARAMETERS, Record};
 
 // Why a request gets no reply, in the order of the tests.
-#[derive(Drop)]
+#[derive(Clone, Copy)]
 pub enum Silence {
     // M1
     InvalidRecord,
@@ -50,7 +51,7 @@ pub fn number_of(silence: Silence) -> u8
 }
 
 // The standard's exceptions that are answered.
-#[derive(Drop)]
+#[derive(Clone, Copy)]
 pub enum Exception {
     // 01
     IllegalFunction,
@@ -75,7 +76,7 @@ fn exception_code(exception: Exception) -> u8
 }
 
 // What a request asks for.
-#[derive(Drop)]
+#[derive(Clone, Copy)]
 enum Asked {
     // M1 to M8
     Silent(Silence),
@@ -86,7 +87,7 @@ enum Asked {
     Write(usize, u32),
 }
 
-#[derive(Drop)]
+#[derive(Clone, Copy)]
 pub enum Answer {
     // M1 to M8
     Silent(Silence),
@@ -95,21 +96,21 @@ pub enum Answer {
 }
 
 // The answer, and the effect that the record has still to take.
-#[derive(Drop)]
+#[derive(Clone, Copy)]
 struct Replied {
     pub answer: Answer,
     pub effect: Effect,
 }
 
 // The answer, and the record afterwards.
-#[derive(Drop)]
+#[derive(Clone, Copy)]
 pub struct Called {
     pub answer: Answer,
     pub after: Record,
 }
 
 // The answer, and the record and the bank afterwards.
-#[derive(Drop)]
+#[derive(Clone, Copy)]
 pub struct BankedCalled {
     pub answer: Answer,
     pub after: Banked,

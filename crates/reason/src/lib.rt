@@ -1,4 +1,5 @@
 // Why an exchange refutes a recording, by what is known of the record before it.
+#![tactic(auto)]
 ghost use Rattle.std.specs.Prelude.{◌≡◌, ◌≤◌};
 ghost use Rattle.state.specs.Field.{field_count};
 ghost use Rattle.hearing.specs.Hearing.{exchange};
@@ -7,7 +8,7 @@ ghost use Rattle.reason.specs.Reason.{alone, first_alone, reply_reason, reason_o
 use hearing::Said;
 use knowledge::{FIELDS, Knowledge};
 
-#[derive(Drop)]
+#[derive(Clone, Copy)]
 pub enum Reason {
     // A reply where silence Sn was due.
     Answered(u8),

@@ -1,4 +1,5 @@
 // Recordings, version 1: their form.
+#![tactic(auto)]
 ghost use Rattle.std.specs.Prelude.{◌≡◌, ◌≤◌, length, drop};
 ghost use Rattle.recording.specs.Form.{header_width, exchanges_in, exchange_at, recording_of, summary, read_as, count_of, refusal_number};
 
@@ -6,7 +7,7 @@ use base::wide;
 use state::{ACCESS_RANGE, ADDRESS_RANGE, within};
 
 // Why a recording is refused.
-#[derive(Drop)]
+#[derive(Clone, Copy)]
 pub enum Refusal {
     // J1
     Length,
@@ -34,7 +35,7 @@ pub fn number_of(refusal: Refusal) -> u8
 }
 
 // Where an exchange has its request, up to stop, and its reply, up to end, where the next exchange starts.
-#[derive(Drop)]
+#[derive(Clone, Copy)]
 pub struct Spans {
     pub request: usize,
     pub stop: usize,
@@ -43,7 +44,7 @@ pub struct Spans {
 }
 
 // What stands at a place.
-#[derive(Drop)]
+#[derive(Clone, Copy)]
 pub enum Next {
     End,
     Cut,
@@ -51,7 +52,7 @@ pub enum Next {
 }
 
 // The address, the access and the number of exchanges, or a refusal.
-#[derive(Drop)]
+#[derive(Clone, Copy)]
 pub enum Read {
     Refused(Refusal),
     Recorded(u8, u8, usize),
@@ -86,7 +87,7 @@ pub fn exchange_at(s: &[u8], at: usize) -> Next
 }
 
 // How many exchanges there are to the end, or that one is cut.
-#[derive(Drop)]
+#[derive(Clone, Copy)]
 enum Count {
     Cut,
     Whole(usize),

@@ -1,4 +1,5 @@
 // The text of a reply, written into the lent part of the reply buffer.
+#![tactic(auto)]
 ghost use Rattle.std.specs.Prelude.{◌≡◌, [], ◌+◌, ◌*◌, ◌%◌, ◌≤◌, length};
 ghost use Rattle.base.specs.Test.{pick};
 ghost use Rattle.base.specs.Lists.{over_at};
@@ -177,7 +178,7 @@ pub fn write(r: Record, answer: Answer, out: &mut [u8]) -> usize
 }
 
 // What is replied to the request for a kept batch.
-#[derive(Drop)]
+#[derive(Clone, Copy)]
 pub enum Kept {
     // NO03
     Nothing,

@@ -1,4 +1,5 @@
 // Several minicomputer frames in one lent buffer, answered in order as single calls would be.
+#![tactic(auto)]
 ghost use Rattle.std.specs.Prelude.{◌≡◌, ◌≤◌, length, drop};
 ghost use Rattle.several.specs.Several.{several_of};
 ghost use Rattle.several.specs.Beside.{banked_several_of};
@@ -13,14 +14,14 @@ use state::Record;
 const TRAILER: usize = 3;
 
 // What is reported: bytes taken, frames answered and reply bytes.
-#[derive(Drop)]
+#[derive(Clone, Copy)]
 pub struct Report {
     pub taken: usize,
     pub answered: usize,
     pub written: usize,
 }
 
-#[derive(Drop)]
+#[derive(Clone, Copy)]
 pub enum Answer {
     // S1: nothing is taken.
     Silent(Silence),
@@ -28,21 +29,21 @@ pub enum Answer {
 }
 
 // The answer, and the record afterwards.
-#[derive(Drop)]
+#[derive(Clone, Copy)]
 pub struct Called {
     pub answer: Answer,
     pub after: Record,
 }
 
 // The answer, and record and bank afterwards.
-#[derive(Drop)]
+#[derive(Clone, Copy)]
 pub struct CalledBanked {
     pub answer: Answer,
     pub after: Banked,
 }
 
 // What the bytes from a place on start with, after those that are passed.
-#[derive(Drop)]
+#[derive(Clone, Copy)]
 enum Found {
     // Where a frame starts, and where it ends.
     Frame(usize, usize),
@@ -51,7 +52,7 @@ enum Found {
 }
 
 // What is due to a frame.
-#[derive(Drop)]
+#[derive(Clone, Copy)]
 enum Due {
     // Nothing: S3 to S7.
     Refused,
@@ -64,7 +65,7 @@ enum Due {
 }
 
 // Where the walk stands next.
-#[derive(Drop)]
+#[derive(Clone, Copy)]
 enum Turn {
     // It stops here: at the end, at an STX that is not decided, or at a frame whose answer has no room.
     Stop(usize),

@@ -1,4 +1,5 @@
 // What the reply to an accepted request shows of the record.
+#![tactic(auto)]
 ghost use Rattle.std.specs.Prelude.{◌≡◌, ◌&&◌, [], ◌∷◌, ◌*◌, ◌≤◌, eqb, length};
 ghost use Rattle.base.specs.Text.{text};
 ghost use Rattle.base.specs.Test.{pick};
@@ -229,7 +230,7 @@ fn show_status(k: Knowledge, s: &[u8]) -> Knowledge
 }
 
 // How far the codes of RS are read, and what is known then.
-#[derive(Drop)]
+#[derive(Clone, Copy)]
 struct Walk {
     at: usize,
     known: Knowledge,

@@ -1,4 +1,6 @@
 // The controller's record: its parameters, its alarms, its validity, what the panel does to it and its phase changes.
+#![tactic(auto)]
+
 ghost use Rattle.std.specs.Prelude.{◌≡◌, ◌&&◌, ◌%◌, ◌≤◌};
 ghost use Rattle.base.specs.Test.{pick};
 ghost use Rattle.state.specs.Parameter.{recipes, code_at, kind_range, range_at, kind_place, recipe_place, by_digits, place_of};
@@ -14,7 +16,7 @@ pub const RECIPES: usize = 8;
 pub const PARAMETERS: usize = 3 * RECIPES + 8;
 
 // What a parameter of a recipe is.
-#[derive(Drop)]
+#[derive(Clone, Copy)]
 pub enum ParameterKind {
     Share,
     Factor,
@@ -22,13 +24,13 @@ pub enum ParameterKind {
 }
 
 // A recipe's parameter, by the recipe's number and its kind.
-#[derive(Drop)]
+#[derive(Clone, Copy)]
 enum RecipeParameter {
     Of(u16, ParameterKind),
     Nothing,
 }
 
-#[derive(Drop)]
+#[derive(Clone, Copy)]
 pub enum Phase {
     Idle,
     Set,
@@ -38,14 +40,14 @@ pub enum Phase {
 }
 
 // Where a parameter stands in the list by rising code.
-#[derive(Drop)]
+#[derive(Clone, Copy)]
 pub enum Place {
     At(usize),
     Nothing,
 }
 
 // The low end and the high end of what a field may hold.
-#[derive(Drop)]
+#[derive(Clone, Copy)]
 pub struct Range {
     pub low: u32,
     pub high: u32,
@@ -108,7 +110,7 @@ const LOW_LEVEL: u8 = LEVEL_RANGE.low as u8;
 
 const HIGH_LEVEL: u8 = LEVEL_RANGE.high as u8;
 
-#[derive(Drop)]
+#[derive(Clone, Copy)]
 pub struct Record {
     pub address: u8,
     // The access of this link.
@@ -135,7 +137,7 @@ pub struct Record {
 }
 
 // What the panel does.
-#[derive(Drop)]
+#[derive(Clone, Copy)]
 pub enum Event {
     Pulses(u16),
     Still,

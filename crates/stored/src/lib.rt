@@ -1,4 +1,5 @@
 // The stored form of a record.
+#![tactic(auto)]
 ghost use Rattle.std.specs.Prelude.{◌≡◌, true, ◌+◌, ◌*◌, ◌≤◌, ◌<◌, length, get_or};
 ghost use Rattle.std.proofs.lemmas.List.Edits.{sets};
 ghost use Rattle.base.specs.Test.{member};
@@ -73,7 +74,7 @@ const LENGTH_WITHOUT_ALARMS: usize = ALARMS_AT + PARAMETERS_LENGTH;
 pub const STORED_LENGTH: usize = PARAMETERS_AT + PARAMETERS_LENGTH;
 
 // Where a number is stored, in how many bytes, and within which range.
-#[derive(Drop)]
+#[derive(Clone, Copy)]
 pub struct Slot {
     pub at: usize,
     pub width: usize,
@@ -82,7 +83,7 @@ pub struct Slot {
 }
 
 // Why stored bytes are refused.
-#[derive(Drop)]
+#[derive(Clone, Copy)]
 pub enum Refusal {
     // K1
     Length,
@@ -107,41 +108,41 @@ pub fn number_of(refusal: Refusal) -> u8
 }
 
 // What the header's reader answers.
-#[derive(Drop)]
+#[derive(Clone, Copy)]
 pub enum Header {
     Good,
     Refused(Refusal),
 }
 
 // What a number's reader answers.
-#[derive(Drop)]
+#[derive(Clone, Copy)]
 pub enum Number {
     Inside(u32),
     Outside,
 }
 
 // What a parameter's reader answers: its value and its level.
-#[derive(Drop)]
+#[derive(Clone, Copy)]
 pub enum Parameter {
     Inside(u32, u8),
     Outside,
 }
 
 // What reading answers, beside the record.
-#[derive(Drop)]
+#[derive(Clone, Copy)]
 pub enum Answer {
     Whole,
     Refused(Refusal),
 }
 
-#[derive(Drop)]
+#[derive(Clone, Copy)]
 pub struct Reading {
     pub answer: Answer,
     pub record: Record,
 }
 
 // What writing answers.
-#[derive(Drop)]
+#[derive(Clone, Copy)]
 pub enum Written {
     // K5
     InvalidRecord,

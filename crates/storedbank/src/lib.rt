@@ -1,4 +1,5 @@
 // The stored form of a bank.
+#![tactic(auto)]
 ghost use Rattle.std.specs.Prelude.{◌≡◌, ◌+◌, ◌≤◌, ◌<◌, length, take, drop};
 ghost use Rattle.base.specs.Lists.{over_at};
 ghost use Rattle.stored.specs.Form.{number_of};
@@ -22,7 +23,7 @@ const BATCH: usize = 2 + 1 + 2 + 4 + 3;
 pub const ROOM: usize = HEADER + BATCH * MOST;
 
 // What writing answers.
-#[derive(Drop)]
+#[derive(Clone, Copy)]
 pub enum Written {
     // K5
     InvalidBank,
@@ -32,28 +33,28 @@ pub enum Written {
 }
 
 // What reading answers, beside the bank.
-#[derive(Drop)]
+#[derive(Clone, Copy)]
 pub enum Answer {
     Whole,
     // K7
     Refused,
 }
 
-#[derive(Drop)]
+#[derive(Clone, Copy)]
 pub struct Reading {
     pub answer: Answer,
     pub bank: Bank,
 }
 
 // What the header's reader answers: the number of batches.
-#[derive(Drop)]
+#[derive(Clone, Copy)]
 enum Header {
     Batches(usize),
     Refused,
 }
 
 // What a batch's reader answers.
-#[derive(Drop)]
+#[derive(Clone, Copy)]
 enum Found {
     Inside(Batch),
     Outside,

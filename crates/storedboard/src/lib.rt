@@ -1,4 +1,5 @@
 // A board whose records are lent end to end in their stored form.
+#![tactic(auto)]
 ghost use Rattle.std.specs.Prelude.{◌≡◌, ◌*◌, ◌≤◌, length, take};
 ghost use Rattle.frame.specs.Answer.{address_of};
 ghost use Rattle.board.specs.Board.{answer_silence, board_of};
@@ -10,7 +11,7 @@ use frame::{Addressed, Kind};
 use state::Record;
 use stored::STORED_LENGTH;
 
-#[derive(Drop)]
+#[derive(Clone, Copy)]
 pub enum Answer {
     // The number n of Kn: K1 for the length of the whole, or that of the first record that is refused.
     Refused(u8),

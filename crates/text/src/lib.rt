@@ -1,4 +1,6 @@
 // Words and numbers in a text, read and written.
+#![tactic(auto)]
+
 ghost use Rattle.std.specs.Prelude.{◌≡◌, true, ◌≤◌, length, take, drop};
 ghost use Rattle.text.specs.Word.{digits, width_in, decimal, all_digits, value_of, number_for, equal};
 ghost use Rattle.text.specs.Written.{written_at};
@@ -6,7 +8,7 @@ ghost use Rattle.text.specs.Written.{written_at};
 use base::wide;
 
 // The number that up to eight digits are, that of none being 0; or nothing for any other text.
-#[derive(Drop)]
+#[derive(Clone, Copy)]
 pub enum Digits {
     Number(u32),
     Nothing,

@@ -1,4 +1,5 @@
 // Week totals: for each recipe the exact sum of raw times factor, and the number of batches.
+#![tactic(auto)]
 ghost use Rattle.std.specs.Prelude.{◌≡◌, ◌≤◌, length};
 ghost use Rattle.totalling.specs.Totals.{entry, amount, most, in_range, refusal_number, refused_by, totals_as, totals_of, laid_in};
 
@@ -8,7 +9,7 @@ use state::{FACTOR_RANGE, RAW_RANGE, RECIPE_RANGE, RECIPES, within};
 pub const MOST: usize = 1000;
 
 // Why lists are refused.
-#[derive(Drop)]
+#[derive(Clone, Copy)]
 pub enum Refusal {
     // W1
     UnequalLengths,
@@ -19,14 +20,14 @@ pub enum Refusal {
 }
 
 // What is answered, beside the sums and the numbers of batches.
-#[derive(Drop)]
+#[derive(Clone, Copy)]
 pub enum Answer {
     Whole,
     Refused(Refusal),
 }
 
 // Recipe 1 comes first. The sums are in ten-thousandths of a unit.
-#[derive(Drop)]
+#[derive(Clone, Copy)]
 pub struct Totals {
     pub answer: Answer,
     pub sums: [u64; RECIPES],

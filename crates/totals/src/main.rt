@@ -1,4 +1,5 @@
 // Adds up the stored bank on standard input, and writes a line for each recipe that occurs to standard output.
+#![tactic(auto)]
 use libc::{STDIN_FILENO, STDOUT_FILENO};
 
 // One byte more than any stored bank has, so an input that fills it is refused whatever comes behind it.

@@ -1,4 +1,5 @@
 // The totals of a stored bank, and what is printed of them.
+#![tactic(auto)]
 ghost use Rattle.std.specs.Prelude.{◌≡◌, ◌≤◌, take};
 ghost use Rattle.text.specs.Written.{written_first};
 ghost use Rattle.bank.specs.Bank.{most};
@@ -12,14 +13,14 @@ use storedbank::Answer;
 use text::put_word;
 use totalling::Totals;
 
-#[derive(Drop)]
+#[derive(Clone, Copy)]
 pub struct Week {
     pub answer: Answer,
     pub totals: Totals,
 }
 
 // What reading answers, and the length of what is printed.
-#[derive(Drop)]
+#[derive(Clone, Copy)]
 pub struct Printed {
     pub answer: Answer,
     pub written: usize,

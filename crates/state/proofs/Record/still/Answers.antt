@@ -1,0 +1,13 @@
+-- `state::Record::still` meets its contract: unchanged if not valid, else the flag off. Assumes nothing.
+use mathlib.Core.Path.{refl}
+use Rattle.state.specs.Field.{put}
+use Rattle.state.proofs.Events.{after_invalid, after_valid}
+use Rattle.state.specs.declared.Event.TheVariants.{Still}
+use Rattle.state.proofs.Record.still.Goals as goal
+
+pub returns-then-not-valid : goal.returns-then-not-valid
+returns-then-not-valid c = search after_invalid
+
+pub returns : goal.returns
+unfolding put
+returns c = after_valid _ _ c.valid.ensures c.if-not-valid.false-raw Still _ refl

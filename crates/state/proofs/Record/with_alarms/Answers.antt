@@ -1,0 +1,12 @@
+-- `state::Record::with_alarms` meets its contract: unchanged if not valid. Assumes nothing.
+use mathlib.Core.Path.{sym, ◌∙◌}
+use borrow.Author.Tests.{not-true, not-false}
+use Rattle.state.specs.Field.{put}
+use Rattle.state.proofs.Record.with_alarms.Goals as goal
+
+pub returns-then-not-valid : goal.returns-then-not-valid
+returns-then-not-valid c = simp (sym c.valid.ensures ∙ not-true _ c.if-not-valid.true-raw)
+
+pub returns : goal.returns
+unfolding put
+returns c = simp (sym c.valid.ensures ∙ not-false _ c.if-not-valid.false-raw)

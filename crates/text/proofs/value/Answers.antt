@@ -1,0 +1,31 @@
+-- `text::value` meets its contract. The loop's invariant: n is the number of the first i digits, of at most i digits itself.
+-- Assumes nothing.
+use Prim.Native.Nat.{◌-◌}
+use native.Mathlib.Omega.{arith}
+use lib.ListN.{get_or}
+use Rattle.text.proofs.Words.{Room, reading_start, reading_room, reading_again, reading_done}
+use Rattle.text.proofs.value.Goals as goal
+
+pub loop-i-init : goal.loop-i-init
+loop-i-init c = search reading_start
+
+pub overflow_mul-n : goal.overflow_mul-n
+overflow_mul-n c =
+    let room : Room c.loop-i.n (get_or c.args.s.now c.loop-i.i 0) = search reading_room in
+    omega (arith, room)
+
+pub overflow_sub-n : goal.overflow_sub-n
+overflow_sub-n c =
+    let room : Room c.loop-i.n (get_or c.args.s.now c.loop-i.i 0) = search reading_room in
+    omega (arith, room)
+
+pub overflow_add-n : goal.overflow_add-n
+overflow_add-n c =
+    let room : Room c.loop-i.n (get_or c.args.s.now c.loop-i.i 0) = search reading_room in
+    omega (arith, room)
+
+pub loop-i-preserved : goal.loop-i-preserved
+loop-i-preserved c = search reading_again
+
+pub returns : goal.returns
+returns c = search reading_done
