@@ -1,5 +1,6 @@
 // The finished batches that are kept, oldest first.
 #![tactic(auto)]
+
 ghost use Rattle.std.specs.Prelude.{◌≡◌};
 ghost use Rattle.bank.specs.Bank.{batch_valid, batch_of, valid, keep_of, no_batch, newest_of, empty_bank};
 

@@ -1,5 +1,6 @@
 // What is known of a controller's record: one set for each field, as a code at the field's position.
 #![tactic(auto)]
+
 ghost use Rattle.std.specs.Prelude.{◌≡◌, ◌≤◌};
 ghost use Rattle.base.specs.Test.{pick};
 ghost use Rattle.state.specs.Alarm.{all_alarms};

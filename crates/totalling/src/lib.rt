@@ -1,5 +1,6 @@
 // Week totals: for each recipe the exact sum of raw times factor, and the number of batches.
 #![tactic(auto)]
+
 ghost use Rattle.std.specs.Prelude.{◌≡◌, ◌≤◌, length};
 ghost use Rattle.totalling.specs.Totals.{entry, amount, most, in_range, refusal_number, refused_by, totals_as, totals_of, laid_in};
 
