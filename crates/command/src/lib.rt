@@ -1,5 +1,6 @@
 // A request's text as a value, what refuses it, and what it changes.
 #![tactic(auto)]
+
 ghost use Rattle.std.specs.Prelude.{◌≡◌, true, false, ◌≤◌, ◌<◌};
 ghost use Rattle.state.specs.Field.{Field, get, put};
 ghost use Rattle.base.specs.Test.{pick, member};

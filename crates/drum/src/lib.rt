@@ -1,6 +1,7 @@
 // Drum change on the two-drum skid: the requests to a unit, in turn, and the replies that let it go on. A batch is set only after
 // the unit has shown that it holds the picked recipe and factor.
 #![tactic(auto)]
+
 ghost use Rattle.std.specs.Prelude.{◌≡◌, ◌++◌, ◌+◌, ◌≤◌, length};
 ghost use Rattle.base.specs.Lists.{over_at};
 ghost use Rattle.text.specs.Word.{digits, equal};
