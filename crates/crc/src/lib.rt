@@ -1,5 +1,6 @@
 // The check of the Modbus standard: of a list of bytes, and at the end of a frame.
 #![tactic(auto)]
+
 ghost use Rattle.std.specs.Prelude.{◌≡◌};
 ghost use Rattle.crc.specs.Crc.{shifted, shifted_times, crc_of, crc_right, seal_of};
 

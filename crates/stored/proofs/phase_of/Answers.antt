@@ -1,0 +1,24 @@
+-- `phase_of` gives the phase of a number, case by case. Assumes nothing.
+use borrow.Author.Tests.{ne_eqb}
+use Rattle.state.specs.Field.{phase_of}
+use Rattle.stored.proofs.phase_of.Goals as goal
+
+pub returns-in-0 : goal.returns-in-0
+unfolding phase_of
+returns-in-0 c = simp c.in-0.is
+
+pub returns-in-1 : goal.returns-in-1
+unfolding phase_of
+returns-in-1 c = simp c.in-1.is
+
+pub returns-in-2 : goal.returns-in-2
+unfolding phase_of
+returns-in-2 c = simp c.in-2.is
+
+pub returns-in-3 : goal.returns-in-3
+unfolding phase_of
+returns-in-3 c = simp c.in-3.is
+
+pub returns-in_default : goal.returns-in_default
+unfolding phase_of
+returns-in_default c = simp (ne_eqb _ _ c.in_default.in_default-own.rest.0.0.0.1, ne_eqb _ _ c.in_default.in_default-own.rest.0.0.1, ne_eqb _ _ c.in_default.in_default-own.rest.0.1, ne_eqb _ _ c.in_default.in_default-own.rest.1)
