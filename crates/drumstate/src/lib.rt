@@ -1,5 +1,6 @@
 // A drum change whose state is eight bytes in lent memory.
 #![tactic(auto)]
+
 ghost use Rattle.std.specs.Prelude.{◌≡◌, ◌%◌, length};
 ghost use Rattle.drum.specs.Numbers.{checked_as, told_as};
 ghost use Rattle.drum.specs.Turns.{is_taken};

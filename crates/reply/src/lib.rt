@@ -1,5 +1,6 @@
 // The text of a reply, written into the lent part of the reply buffer.
 #![tactic(auto)]
+
 ghost use Rattle.std.specs.Prelude.{◌≡◌, [], ◌+◌, ◌*◌, ◌%◌, ◌≤◌, length};
 ghost use Rattle.base.specs.Test.{pick};
 ghost use Rattle.base.specs.Lists.{over_at};

@@ -1,5 +1,6 @@
 // The stored form of a bank.
 #![tactic(auto)]
+
 ghost use Rattle.std.specs.Prelude.{◌≡◌, ◌+◌, ◌≤◌, ◌<◌, length, take, drop};
 ghost use Rattle.base.specs.Lists.{over_at};
 ghost use Rattle.stored.specs.Form.{number_of};
