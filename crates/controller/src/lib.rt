@@ -1,5 +1,6 @@
 // One call of the controller: a request frame in, a reply frame or a named silence out.
 #![tactic(auto)]
+
 ghost use Rattle.std.specs.Prelude.{◌≡◌, length};
 ghost use Rattle.command.specs.Request.{effect_as};
 ghost use Rattle.controller.specs.Call.{answer_length, outcome_as, silent_as, reply_of, call_of, hearing_of, heard_as};

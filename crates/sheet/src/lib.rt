@@ -1,5 +1,6 @@
 // Totals as text: a sum in units, and a line for each recipe.
 #![tactic(auto)]
+
 ghost use Rattle.std.specs.Prelude.{◌≡◌, ◌+◌, ◌≤◌, length};
 ghost use Rattle.base.specs.Lists.{over_at};
 ghost use Rattle.text.specs.Written.{written_first};

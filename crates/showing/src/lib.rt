@@ -1,5 +1,6 @@
 // What the reply to an accepted request shows of the record.
 #![tactic(auto)]
+
 ghost use Rattle.std.specs.Prelude.{◌≡◌, ◌&&◌, [], ◌∷◌, ◌*◌, ◌≤◌, eqb, length};
 ghost use Rattle.base.specs.Text.{text};
 ghost use Rattle.base.specs.Test.{pick};
