@@ -1,5 +1,6 @@
 // One call of the controller with a bank of finished batches beside its record.
 #![tactic(auto)]
+
 ghost use Rattle.std.specs.Prelude.{◌≡◌};
 ghost use Rattle.controller.specs.Call.{outcome_as};
 ghost use Rattle.banked.specs.Banked.{with, valid, reply_of, banked_of};
