@@ -1,5 +1,6 @@
 // What an answered request teaches of the record.
 #![tactic(auto)]
+
 ghost use Rattle.std.specs.Prelude.{◌≡◌, ◌++◌, ◌≤◌};
 ghost use Rattle.base.specs.Test.{pick};
 ghost use Rattle.state.specs.Field.{phase};

@@ -1,5 +1,6 @@
 // The totals of a stored bank, and what is printed of them.
 #![tactic(auto)]
+
 ghost use Rattle.std.specs.Prelude.{◌≡◌, ◌≤◌, take};
 ghost use Rattle.text.specs.Written.{written_first};
 ghost use Rattle.bank.specs.Bank.{most};
