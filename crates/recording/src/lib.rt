@@ -1,5 +1,6 @@
 // Recordings, version 1: their form.
 #![tactic(auto)]
+
 ghost use Rattle.std.specs.Prelude.{◌≡◌, ◌≤◌, length, drop};
 ghost use Rattle.recording.specs.Form.{header_width, exchanges_in, exchange_at, recording_of, summary, read_as, count_of, refusal_number};
 

@@ -1,5 +1,6 @@
 // Several minicomputer frames in one lent buffer, answered in order as single calls would be.
 #![tactic(auto)]
+
 ghost use Rattle.std.specs.Prelude.{◌≡◌, ◌≤◌, length, drop};
 ghost use Rattle.several.specs.Several.{several_of};
 ghost use Rattle.several.specs.Beside.{banked_several_of};

@@ -1,0 +1,12 @@
+-- `several::next_due` meets its contract: `Turning` holds at each turn; one law for each way on and each way out. The measure is the bytes
+-- left. Assumes nothing.
+use Prim.Native.Nat.{◌-◌}
+use lib.ListN.{length}
+use Rattle.several.proofs.Turns.{Turning}
+use Rattle.several.proofs.next_due.Given as goal
+
+abbrev pub invariant-loop-place : goal.invariant-loop-place
+invariant-loop-place l = Turning l.address l.room l.bytes l.from l.taken
+
+abbrev pub decreases-loop-place : goal.decreases-loop-place
+decreases-loop-place l = length l.bytes - l.taken
