@@ -11,6 +11,7 @@ use lib.ListN.{length, take, get_or, set, length-set}
 use lib.Seq.{take-suc, take-suc-set, take_all}
 use borrow.Author.Tests.{lt-ltb, le-ltb, ne_eqb}
 use Rattle.state.specs.declared.Record.{Record}
+use Rattle.state.specs.declared.Phase.TheVariants.{Idle}
 use Rattle.state.specs.Valid.{valid}
 use Rattle.base.specs.Test.{pick, unless, between, all_distinct}
 use Rattle.base.proofs.Tests.{by_test, and-exchanged, between_high}
@@ -26,6 +27,27 @@ use Rattle.board.specs.declared.Found.{Found}
 use Rattle.board.specs.declared.Served.{Served}
 use Rattle.board.specs.Board.{Outcome, silent, all_valid, addresses, first, behind, asked, dispatched, board_of, outcome_as}
 use Rattle.board.specs.Steps.{Way, unseen, seen_with, with_of, place_in, silent_at, way_as, way_to, found_of, one_as}
+
+-- what Rattle reads past the end of a list of records
+abbrev pub no_record : Record
+no_record =
+    record {
+      address = 0;
+      access = 0;
+      phase = Idle;
+      keypad = false;
+      flow = false;
+      changed = false;
+      reset = false;
+      powerfail = false;
+      recipe = 0;
+      preset = 0;
+      raw = 0;
+      number = 0;
+      alarms = 0;
+      values = [];
+      levels = [];
+    }
 
 -- ---- one record more at the end
 valid_more : (rs : List Record) (r : Record) → all_valid (rs ++ (r ∷ [])) ≡ (valid r && all_valid rs)

@@ -1,5 +1,6 @@
 // One board with up to sixteen records: a request goes to the record with its address.
 #![tactic(auto)]
+
 ghost use Rattle.std.specs.Prelude.{◌≡◌, not, ◌≤◌, eqb};
 ghost use Rattle.base.specs.Test.{all_distinct};
 ghost use Rattle.controller.specs.Call.{call_of};

@@ -1,5 +1,6 @@
 // One exchange: what it says before any record is looked at, and what it teaches of the record.
 #![tactic(auto)]
+
 ghost use Rattle.std.specs.Prelude.{◌≡◌};
 ghost use Rattle.frame.specs.declared.Kind.TheVariants.{Minicomputer};
 ghost use Rattle.banked.specs.Banked.{asks_heard};

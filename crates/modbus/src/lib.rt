@@ -1,5 +1,6 @@
 // A Modbus RTU slave over the controller's parameters: a request frame in, a reply frame or a named silence out.
 #![tactic(auto)]
+
 ghost use Rattle.std.specs.Prelude.{◌≡◌, [], ◌∷◌, ◌++◌, ◌+◌, ◌*◌, ◌≤◌, ◌<◌, length, take};
 ghost use Rattle.base.specs.Lists.{over};
 ghost use Rattle.command.specs.Request.{refusal_number, effect_as};

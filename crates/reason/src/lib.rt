@@ -1,5 +1,6 @@
 // Why an exchange refutes a recording, by what is known of the record before it.
 #![tactic(auto)]
+
 ghost use Rattle.std.specs.Prelude.{◌≡◌, ◌≤◌};
 ghost use Rattle.state.specs.Field.{field_count};
 ghost use Rattle.hearing.specs.Hearing.{exchange};
