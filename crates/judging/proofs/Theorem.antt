@@ -313,11 +313,11 @@ judged-fits bs a c es e none =
     )
 
 -- what equals the judge's answer meets demand 3
-pub right_so : (bs : List ℕ) (j : Judgement) → j ≡ judgement_of bs → Demand3 bs j × (j ≡ judgement_of bs)
-right_so bs j e = (subst (Demand3 bs) (sym e) (judgement_right bs), e)
+pub right_so : (bs : List ℕ) (j : Judgement) → j ≡ judgement_of bs → Demand3 bs j
+right_so bs j e = subst (Demand3 bs) (sym e) (judgement_right bs)
 
-pub known_so : (bs : List ℕ) (k : ℕ) (x : Telling × List ℕ) → x ≡ known_of bs k → RightlyTold bs k (told_by x) × (x ≡ known_of bs k)
-known_so bs k x e = (subst (λ (y : Telling × List ℕ). RightlyTold bs k (told_by y)) (sym e) (known_right bs k), e)
+pub known_so : (bs : List ℕ) (k : ℕ) (x : Telling × List ℕ) → x ≡ known_of bs k → RightlyTold bs k (told_by x)
+known_so bs k x e = subst (λ (y : Telling × List ℕ). RightlyTold bs k (told_by y)) (sym e) (known_right bs k)
 
-pub why_so : (bs : List ℕ) (x : Caused) → x ≡ why_of bs → RightlyReasoned bs (reasoned_by x) × (x ≡ why_of bs)
-why_so bs x e = (subst (λ (y : Caused). RightlyReasoned bs (reasoned_by y)) (sym e) (why_right bs), e)
+pub why_so : (bs : List ℕ) (x : Caused) → x ≡ why_of bs → RightlyReasoned bs (reasoned_by x)
+why_so bs x e = subst (λ (y : Caused). RightlyReasoned bs (reasoned_by y)) (sym e) (why_right bs)

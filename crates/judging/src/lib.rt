@@ -1,6 +1,7 @@
 // The judge: whether any correct controller could have produced a recording, and if not, where it broke and why; and what is known of
 // the controller's record on the way.
 #![tactic(auto)]
+
 ghost use Rattle.std.specs.Prelude.{◌≡◌};
 ghost use Rattle.recording.specs.Statement.{Demand3};
 ghost use Rattle.recording.specs.Known.{RightlyTold, RightlyReasoned};

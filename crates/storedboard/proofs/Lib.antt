@@ -1,4 +1,3 @@
-pub mod Arrays
 pub mod Reading
 pub mod Writing
 pub mod Calling

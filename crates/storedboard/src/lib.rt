@@ -1,5 +1,6 @@
 // A board whose records are lent end to end in their stored form.
 #![tactic(auto)]
+
 ghost use Rattle.std.specs.Prelude.{◌≡◌, ◌*◌, ◌≤◌, length, take};
 ghost use Rattle.frame.specs.Answer.{address_of};
 ghost use Rattle.board.specs.Board.{answer_silence, board_of};
