@@ -1,5 +1,6 @@
 // The functions of include/khuyapesh.h, for C and Rust: bytes and numbers in, bytes and numbers out.
 #![tactic(auto)]
+
 ghost use Rattle.std.specs.Prelude.{◌≡◌, ◌≤◌, leb};
 ghost use Rattle.stored.specs.Layout.{current};
 ghost use Rattle.stored.specs.Form.{K, refusal_number, answer_as, stored_length};

@@ -1,5 +1,6 @@
 // The judge's answer as one line.
 #![tactic(auto)]
+
 ghost use Rattle.std.specs.Prelude.{◌≡◌, ◌++◌, ◌+◌, ◌≤◌, length};
 ghost use Rattle.base.specs.Lists.{over_at};
 ghost use Rattle.text.specs.Word.{newline, decimal};
