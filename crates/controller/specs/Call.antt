@@ -35,13 +35,13 @@ reply_in c = take c.reported c.buffer
 abbrev pub silent : {S : Type 0} → ℕ → S → List ℕ → OutcomeOf S
 silent n r o = record { silence = n; reported = 0; after = r; buffer = o }
 
--- "bytes beyond the reported length keep their values"; f is the reply
+-- "The reply has the same kind: address digits, then the reply."; "bytes beyond the reported length keep their values"; x is the reply's text
+abbrev pub answered : {S : Type 0} → Kind → List ℕ → S → List ℕ → OutcomeOf S
+answered k x s o = record { silence = 0; reported = length (frame_of k x); after = s; buffer = over (frame_of k x) o }
+
+-- the same for a reply f on another link
 abbrev pub answered_by : {S : Type 0} → List ℕ → S → List ℕ → OutcomeOf S
 answered_by f s o = record { silence = 0; reported = length f; after = s; buffer = over f o }
-
--- "The reply has the same kind: address digits, then the reply."; x is its text
-abbrev pub answered : {S : Type 0} → Kind → List ℕ → S → List ℕ → OutcomeOf S
-answered k x s o = answered_by (frame_of k x) s o
 
 abbrev pub replied : Kind → List ℕ → Record → List ℕ → Outcome
 replied k t r o = answered k (reply_text t r) (record_after t r) o

@@ -114,12 +114,13 @@ in_place (n, r) refusal on = pick (eqb n 0) (on r) (refusal n)
 -- ---- khuyapesh_call: the answer, the stored bytes and the reply buffer
 
 -- "the reply's length, with the reply at the start of the reply buffer, .., and the record after it in place of the stored
--- record"; "a refusal or silence leaves every lent byte as it was". `state` is the record of what is held, `answer` a silence's answer
+-- record"; "a refusal or silence leaves every lent byte as it was"
+unfoldable pub call_left : Outcome → List ℕ → List ℕ → ℕ × (List ℕ × List ℕ)
+call_left c s o = pick (eqb c.silence 0) (c.reported, (stored_form c.after, c.buffer)) (silence_answer c.silence, (s, o))
+
+-- the same on another link, where `state` is the record of what is held and `answer` a silence's answer
 abbrev pub left_of : {S : Type 0} → (S → Record) → (ℕ → ℕ) → OutcomeOf S → List ℕ → List ℕ → ℕ × (List ℕ × List ℕ)
 left_of state answer c s o = pick (eqb c.silence 0) (c.reported, (stored_form (state c.after), c.buffer)) (answer c.silence, (s, o))
-
-unfoldable pub call_left : Outcome → List ℕ → List ℕ → ℕ × (List ℕ × List ℕ)
-call_left c s o = left_of (λ r. r) silence_answer c s o
 
 -- "no such kind, then K1 to K4, then K6 .., then S2 to S8"
 unfoldable pub call_bytes : ℕ → List ℕ → List ℕ → List ℕ → ℕ × (List ℕ × List ℕ)
