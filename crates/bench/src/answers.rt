@@ -3,6 +3,8 @@ use crate::print::{put_character, put_field, put_hex, put_number};
 use crate::words::end_of;
 use controller::Answer;
 use frame::{Built, Located, Silence, TextRead};
+use std::io;
+use std::io::Write;
 use stored::{Refusal, STORED_LENGTH, Written};
 
 // The least number that stands for a refusal.
@@ -88,31 +90,31 @@ fn letter(thousand: usize) -> u8 {
 }
 
 // A space, and the length or the refusal's letter and number.
-pub(crate) fn put_answer(answer: usize) {
-    put_character(b' ');
+pub(crate) fn put_answer<W: Write>(writer: &mut W, answer: usize) -> io::Result<()> {
+    put_character(writer, b' ')?;
     if REFUSED <= answer {
-        put_character(letter(answer / 1000));
+        put_character(writer, letter(answer / 1000))?;
     }
-    put_number((answer % 1000) as u64);
+    put_number(writer, (answer % 1000) as u64)
 }
 
 // What each byte of a lent buffer is before.
 pub(crate) const FILL: u8 = 0xee;
 
 // How many bytes from a place on are as before.
-fn put_kept(s: &[u8], from: usize) {
+fn put_kept<W: Write>(writer: &mut W, s: &[u8], from: usize) -> io::Result<()> {
     if from <= s.len() {
-        put_field(b'+', (end_of(s, from, FILL, false) - from) as u64);
+        return put_field(writer, b'+', (end_of(s, from, FILL, false) - from) as u64);
     }
+    Ok(())
 }
 
 // The bytes at the start of a lent buffer that are the answer, or its refusal; then how many bytes behind are as before.
-pub(crate) fn put_lent(answer: usize, out: &[u8]) {
+pub(crate) fn put_lent<W: Write>(writer: &mut W, answer: usize, out: &[u8]) -> io::Result<()> {
     if out.len() < answer {
-        put_answer(answer);
-        put_kept(out, 0);
-        return;
+        put_answer(writer, answer)?;
+        return put_kept(writer, out, 0);
     }
-    put_hex(&out[0..answer]);
-    put_kept(out, answer);
+    put_hex(writer, &out[0..answer])?;
+    put_kept(writer, out, answer)
 }

@@ -2,6 +2,8 @@
 use crate::print::{put_character, put_field, put_number};
 use crate::words::{at, last_number};
 use state::{Event, PARAMETERS, Phase, Record};
+use std::io;
+use std::io::Write;
 
 // ---- the record
 
@@ -107,34 +109,34 @@ pub(crate) fn event_in(line: &[u8]) -> Event {
 
 // ---- fields as text
 
-fn put_flags(r: Record) {
-    put_number(r.keypad as u64);
-    put_number(r.flow as u64);
-    put_number(r.changed as u64);
-    put_number(r.reset as u64);
-    put_number(r.powerfail as u64);
+fn put_flags<W: Write>(writer: &mut W, r: Record) -> io::Result<()> {
+    put_number(writer, r.keypad as u64)?;
+    put_number(writer, r.flow as u64)?;
+    put_number(writer, r.changed as u64)?;
+    put_number(writer, r.reset as u64)?;
+    put_number(writer, r.powerfail as u64)
 }
 
-fn put_fields(r: Record) {
-    put_field(b'@', r.address as u64);
-    put_field(b'A', r.access as u64);
-    put_field(b'R', r.recipe as u64);
+fn put_fields<W: Write>(writer: &mut W, r: Record) -> io::Result<()> {
+    put_field(writer, b'@', r.address as u64)?;
+    put_field(writer, b'A', r.access as u64)?;
+    put_field(writer, b'R', r.recipe as u64)
 }
 
-fn put_batch(r: Record) {
-    put_field(b'P', r.preset as u64);
-    put_field(b'W', r.raw as u64);
-    put_field(b'N', r.number as u64);
-    put_field(b'L', r.alarms as u64);
+fn put_batch<W: Write>(writer: &mut W, r: Record) -> io::Result<()> {
+    put_field(writer, b'P', r.preset as u64)?;
+    put_field(writer, b'W', r.raw as u64)?;
+    put_field(writer, b'N', r.number as u64)?;
+    put_field(writer, b'L', r.alarms as u64)
 }
 
 // Writes the record's phase and flags, then its fields but the parameters, and gives it back.
-pub(crate) fn shown(r: Record) -> Record {
-    put_character(b' ');
+pub(crate) fn shown<W: Write>(writer: &mut W, r: Record) -> io::Result<Record> {
+    put_character(writer, b' ')?;
     let phase = r.phase;
-    put_number(state::phase_number(phase) as u64);
-    put_flags(r);
-    put_fields(r);
-    put_batch(r);
-    r
+    put_number(writer, state::phase_number(phase) as u64)?;
+    put_flags(writer, r)?;
+    put_fields(writer, r)?;
+    put_batch(writer, r)?;
+    Ok(r)
 }

@@ -1,6 +1,7 @@
 // Runs the examples, limits and traps of documents 01 and 02: one case to a line of the input, written back with what it gets.
 // The input itself says at its start what each kind of line is.
 #![tactic(auto)]
+
 mod answers;
 mod fields;
 mod print;
@@ -15,7 +16,13 @@ use crate::print::{put, put_character};
 use crate::uses::{build, call, change, enclose, load, read, store};
 use crate::words::{MOST, at, count_in, end_of, fill, last_number, number_before};
 use frame::Kind;
+use input::read_full;
 use state::Record;
+use std::io;
+use std::io::Write;
+
+// How much of the input is run.
+const INPUT_ROOM: usize = 65536;
 
 // ---- a line's bytes
 
@@ -73,78 +80,103 @@ fn lay_line(line: &[u8], data: &mut [u8]) -> usize {
 // ---- the kinds of lines
 
 // The host side's lines.
-fn host(kind: Kind, line: &[u8], data: &mut [u8], out: &mut [u8]) {
+fn host<W: Write>(
+    writer: &mut W,
+    kind: Kind,
+    line: &[u8],
+    data: &mut [u8],
+    out: &mut [u8],
+) -> io::Result<()> {
     match at(line, 0) {
-        b'b' => build(kind, data, out),
-        b'r' => read(kind, data, out),
-        b'e' => enclose(kind, number_before(line, 11), data),
-        _ => {}
+        b'b' => build(writer, kind, data, out),
+        b'r' => read(writer, kind, data, out),
+        b'e' => enclose(writer, kind, number_before(line, 11), data),
+        _ => Ok(()),
     }
 }
 
 // The record after a line that needs no buffer.
-fn alone(r: Record, line: &[u8]) -> Record {
+fn alone<W: Write>(writer: &mut W, r: Record, line: &[u8]) -> io::Result<Record> {
     match at(line, 0) {
-        b'=' => bench(line),
-        b's' => set(r, line),
-        b'p' => shown(r.after(event_in(line))),
-        b'?' => shown(r),
-        b'c' => change(r, line),
-        _ => r,
+        b'=' => Ok(bench(line)),
+        b's' => Ok(set(r, line)),
+        b'p' => shown(writer, r.after(event_in(line))),
+        b'?' => shown(writer, r),
+        b'c' => change(writer, r, line),
+        _ => Ok(r),
     }
 }
 
 // The record after a line.
-fn after(r: Record, line: &[u8], data: &[u8], out: &mut [u8]) -> Record {
+fn after<W: Write>(
+    writer: &mut W,
+    r: Record,
+    line: &[u8],
+    data: &[u8],
+    out: &mut [u8],
+) -> io::Result<Record> {
     match at(line, 0) {
-        b'M' => call(Kind::Minicomputer, r, data, out),
-        b'T' => call(Kind::Terminal, r, data, out),
-        b'w' => store(r, out),
-        b'l' => load(data),
-        _ => alone(r, line),
+        b'M' => call(writer, Kind::Minicomputer, r, data, out),
+        b'T' => call(writer, Kind::Terminal, r, data, out),
+        b'w' => store(writer, r, out),
+        b'l' => load(writer, data),
+        _ => alone(writer, r, line),
     }
 }
 
 // Between a line and what it gets, if its kind gets something.
-fn put_arrow(mark: u8) {
+fn put_arrow<W: Write>(writer: &mut W, mark: u8) -> io::Result<()> {
     match mark {
-        0 => {}
-        b'#' => {}
-        b'=' => {}
-        b's' => {}
-        b'i' => {}
-        _ => put(b" ->"),
+        0 => Ok(()),
+        b'#' => Ok(()),
+        b'=' => Ok(()),
+        b's' => Ok(()),
+        b'i' => Ok(()),
+        _ => put(writer, b" ->"),
     }
 }
 
 // ---- one line after the other
 
 // The record after a line, with n bytes and a buffer of its own.
-fn with_data(r: Record, line: &[u8], n: usize, data: &mut [u8], out: &mut [u8]) -> Record {
+fn with_data<W: Write>(
+    writer: &mut W,
+    r: Record,
+    line: &[u8],
+    n: usize,
+    data: &mut [u8],
+    out: &mut [u8],
+) -> io::Result<Record> {
     if data.len() < n {
-        return r;
+        return Ok(r);
     }
-    host(kind_of(line), line, &mut data[0..n], out);
-    after(r, line, &data[0..n], out)
+    host(writer, kind_of(line), line, &mut data[0..n], out)?;
+    after(writer, r, line, &data[0..n], out)
 }
 
-fn with_room(r: Record, room: usize, line: &[u8], out: &mut [u8]) -> Record {
+fn with_room<W: Write>(
+    writer: &mut W,
+    r: Record,
+    room: usize,
+    line: &[u8],
+    out: &mut [u8],
+) -> io::Result<Record> {
     let mut data = [0u8; MOST];
     if out.len() < room {
-        return r;
+        return Ok(r);
     }
     let n = lay_line(line, &mut data);
-    with_data(r, line, n, &mut data, &mut out[0..room])
+    with_data(writer, r, line, n, &mut data, &mut out[0..room])
 }
 
 // The record after a line that is written back with what it gets.
-fn run_line(r: Record, room: usize, line: &[u8]) -> Record {
+fn run_line<W: Write>(writer: &mut W, r: Record, room: usize, line: &[u8]) -> io::Result<Record> {
     let mut out = [FILL; MOST];
-    put(line);
-    put_arrow(at(line, 0));
-    let next = with_room(r, room, line, &mut out);
-    put_character(b'\n');
-    next
+    put(writer, line)?;
+    put_arrow(writer, at(line, 0))?;
+    let next = with_room(writer, r, room, line, &mut out)?;
+    put_character(writer, b'\n')?;
+    Ok(next)
 }
 
 // How many bytes are lent after a line.
@@ -156,20 +188,21 @@ fn room_after(room: usize, line: &[u8]) -> usize {
 }
 
 // Every line in turn; each gets the record and the room that the last left.
-fn run(s: &[u8]) {
+fn run<W: Write>(writer: &mut W, s: &[u8]) -> io::Result<()> {
     let mut r = stored::low_record();
     let mut room = 64;
     let mut from = 0;
     while from < s.len() {
         let end = end_of(s, from, b'\n', true);
-        r = run_line(r, room, &s[from..end]);
+        r = run_line(writer, r, room, &s[from..end])?;
         room = room_after(room, &s[from..end]);
         from = end + 1;
     }
+    Ok(())
 }
 
-fn main() {
-    let mut buffer = io::large_buffer();
-    let n = io::read_full(0, &mut buffer);
-    run(&buffer[..n]);
+fn main(rt: HostRuntime) -> io::Result<()> {
+    let mut buffer = [0u8; INPUT_ROOM];
+    let n = read_full(&mut rt.stdin(), &mut buffer)?;
+    run(&mut rt.stdout(), &buffer[..n])
 }

@@ -1,38 +1,37 @@
-// Writing to standard output.
-use libc::STDOUT_FILENO;
+// Writing to a writer, which is standard output where the program runs.
+use std::io;
+use std::io::Write;
 
 // The bytes as they are.
-pub(crate) fn put(s: &[u8]) {
-    io::write_all(STDOUT_FILENO, s);
+pub(crate) fn put<W: Write>(writer: &mut W, s: &[u8]) -> io::Result<()> {
+    writer.write_all(s)
 }
 
-pub(crate) fn put_character(c: u8) {
+pub(crate) fn put_character<W: Write>(writer: &mut W, c: u8) -> io::Result<()> {
     let one = [c];
-    put(&one);
+    put(writer, &one)
 }
 
 // A number in decimal.
-pub(crate) fn put_number(n: u64) {
-    io::print_decimal(STDOUT_FILENO, n);
+pub(crate) fn put_number<W: Write>(writer: &mut W, n: u64) -> io::Result<()> {
+    write!(writer, "{n}")
 }
 
 // A space, a letter and a number.
-pub(crate) fn put_field(letter: u8, n: u64) {
-    put_character(b' ');
-    put_character(letter);
-    put_number(n);
+pub(crate) fn put_field<W: Write>(writer: &mut W, letter: u8, n: u64) -> io::Result<()> {
+    put_character(writer, b' ')?;
+    put_character(writer, letter)?;
+    put_number(writer, n)
 }
 
 // A space and a byte's two hexadecimal digits.
-fn put_byte(byte: u8) {
-    put_character(b' ');
-    io::print_hex(STDOUT_FILENO, byte as u64, 2);
+fn put_byte<W: Write>(writer: &mut W, byte: u8) -> io::Result<()> {
+    write!(writer, " {byte:02x}")
 }
 
-pub(crate) fn put_hex(s: &[u8]) {
-    let mut i = 0;
-    while i < s.len() {
-        put_byte(s[i]);
-        i += 1;
+pub(crate) fn put_hex<W: Write>(writer: &mut W, s: &[u8]) -> io::Result<()> {
+    for byte in s {
+        put_byte(writer, *byte)?;
     }
+    Ok(())
 }

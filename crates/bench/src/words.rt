@@ -14,14 +14,12 @@ pub(crate) fn end_of(s: &[u8], from: usize, byte: u8, same: bool) -> usize
     requires { from ≤ length s.now }
     ensures { (from ≤ result) × (result ≤ length s.now) }
 {
-    let mut i = from;
-    while i < s.len() {
+    for i in from..s.len() {
         if (s[i] == byte) == same {
             return i;
         }
-        i += 1;
     }
-    i
+    s.len()
 }
 
 // ---- numbers
@@ -40,10 +38,8 @@ fn with_digit(n: u32, b: u8) -> u32 {
 // The number that a line ends in, of up to nine digits.
 pub(crate) fn last_number(line: &[u8]) -> u32 {
     let mut n = 0;
-    let mut i = 0;
-    while i < line.len() {
-        n = with_digit(n, line[i]);
-        i += 1;
+    for byte in line {
+        n = with_digit(n, *byte);
     }
     n
 }
@@ -99,9 +95,7 @@ pub(crate) fn count_in(words: &[u8]) -> usize {
 
 // Fills a buffer with the bytes that words give.
 pub(crate) fn fill(words: &[u8], out: &mut [u8]) {
-    let mut i = 0;
-    while i < out.len() {
-        out[i] = byte_in(words, i);
-        i += 1;
+    for (i, byte) in out.iter_mut().enumerate() {
+        *byte = byte_in(words, i);
     }
 }

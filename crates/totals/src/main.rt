@@ -1,14 +1,16 @@
 // Adds up the stored bank on standard input, and writes a line for each recipe that occurs to standard output.
 #![tactic(auto)]
-use libc::{STDIN_FILENO, STDOUT_FILENO};
+
+use std::io;
+use std::io::Write;
 
 // One byte more than any stored bank has, so an input that fills it is refused whatever comes behind it.
 const ROOM: usize = storedbank::ROOM + 1;
 
-fn main() {
+fn main(rt: HostRuntime) -> io::Result<()> {
     let mut stored = [0; ROOM];
-    let length = io::read_full(STDIN_FILENO, &mut stored);
+    let length = input::read_full(&mut rt.stdin(), &mut stored)?;
     let mut text = [0; sheet::ROOM];
     let printed = week::write(&stored[..length], &mut text);
-    io::write_all(STDOUT_FILENO, &text[..printed.written]);
+    rt.stdout().write_all(&text[..printed.written])
 }
