@@ -15,7 +15,7 @@ fn main() {
     println!("cargo:rerun-if-changed={}", archive.display());
     if !archive.is_file() {
         println!(
-            "cargo::error=there is no {}: make it with `rt staticlib exports` in the repository's root, or name its folder in \
+            "cargo::error=there is no {}: make it with `scripts/library` in the repository's root, or name its folder in \
              KHUYAPESH_LIBRARY.",
             archive.display()
         );

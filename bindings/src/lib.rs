@@ -7,7 +7,7 @@
 //! recording, or a line while it talks.
 //!
 //! The archive `libexports.a` is looked for in the folder that the environment variable `KHUYAPESH_LIBRARY` names, or in
-//! `../target/staticlib`; `rt staticlib exports` in the repository's root proves the library and makes it.
+//! `../target/staticlib`; `scripts/library` in the repository's root proves the library and makes it.
 
 #![deny(unsafe_code)]
 
