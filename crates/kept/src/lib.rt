@@ -1,5 +1,6 @@
 // The controller over a record that the panel board keeps in place: lent for the length of a call.
 #![tactic(auto)]
+
 ghost use Rattle.std.specs.Prelude.{◌≡◌};
 ghost use Rattle.banked.specs.Banked.{banked_of};
 ghost use Rattle.controller.specs.Call.{outcome_as, call_of};

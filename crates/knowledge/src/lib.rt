@@ -304,17 +304,47 @@ pub fn may_hold(field: usize, code: u32, n: u32) -> bool
 }
 
 impl Knowledge {
+    // ---- in place, so that what goes in and comes out by value is kept once
+
+    fn refute(&mut self)
+        ensures { self.new ≡ dead self.old }
+    {
+        self.alive = false;
+    }
+
+    fn set(&mut self, at: usize, code: u32)
+        ensures { self.new ≡ recoded at code self.old }
+    {
+        if at < FIELDS {
+            self.codes[at] = code;
+        }
+    }
+
+    // A field of few numbers is in the mask.
+    pub fn narrow(&mut self, at: usize, mask: u32)
+        ensures { self.new ≡ restricted at mask self.old }
+    {
+        let left = self.code(at) & mask;
+        if left == 0 {
+            self.refute();
+            return;
+        }
+        self.set(at, left);
+    }
+
+    // ---- by value
+
     // No record is possible.
     pub fn refuted(mut self) -> Knowledge
         ensures { result ≡ dead self }
     {
-        self.alive = false;
+        self.refute();
         self
     }
 
     // The code at a position, 0 beyond the last.
-    pub fn code(self, at: usize) -> u32
-        ensures { result ≡ code_at at self }
+    pub fn code(&self, at: usize) -> u32
+        ensures { result ≡ code_at at self.now }
     {
         if at < FIELDS {
             return self.codes[at];
@@ -326,78 +356,80 @@ impl Knowledge {
     pub fn put(mut self, at: usize, code: u32) -> Knowledge
         ensures { result ≡ recoded at code self }
     {
-        if at < FIELDS {
-            self.codes[at] = code;
-            return self;
-        }
+        self.set(at, code);
         self
     }
 
     // A field of few numbers is in the mask.
-    pub fn restrict(self, at: usize, mask: u32) -> Knowledge
+    pub fn restrict(mut self, at: usize, mask: u32) -> Knowledge
         ensures { result ≡ restricted at mask self }
     {
-        let left = self.code(at) & mask;
-        if left == 0 {
-            return self.refuted();
-        }
-        self.put(at, left)
+        self.narrow(at, mask);
+        self
     }
 
     // A field of many numbers, of this range, holds n.
-    pub fn tell(self, at: usize, range: Range, n: u32) -> Knowledge
+    pub fn tell(mut self, at: usize, range: Range, n: u32) -> Knowledge
         ensures { result ≡ told at range n self }
     {
-        if !within(range, n) {
-            return self.refuted();
-        }
         let code = self.code(at);
-        if code != ANY && code != n {
-            return self.refuted();
+        if !within(range, n) {
+            self.refute();
+            return self;
         }
-        self.put(at, n)
+        if code != ANY && code != n {
+            self.refute();
+            return self;
+        }
+        self.set(at, n);
+        self
     }
 
     // Just these alarms are on.
-    pub fn tell_alarms(self, n: u32) -> Knowledge
+    pub fn tell_alarms(mut self, n: u32) -> Knowledge
         ensures { result ≡ settled alarms n self }
     {
         if !may_be_on(self.code(ALARMS), n) {
-            return self.refuted();
+            self.refute();
+            return self;
         }
-        self.put(ALARMS, just(n))
+        self.set(ALARMS, just(n));
+        self
     }
 
     // AR: the lasting alarms stay.
-    pub fn reset_alarms(self) -> Knowledge
+    pub fn reset_alarms(mut self) -> Knowledge
         ensures { result ≡ alarms_left self }
     {
-        self.put(ALARMS, after_reset(self.code(ALARMS)))
+        let left = after_reset(self.code(ALARMS));
+        self.set(ALARMS, left);
+        self
     }
 
     // PC: a value becomes n, and "changed" is switched on if that differs from the value held.
     pub fn set_value(mut self, at: usize, n: u32) -> Knowledge
         ensures { result ≡ replacing at n (position changed) self }
     {
-        self.codes[CHANGED] = flag_after(self.codes[CHANGED], self.code(at), n);
-        if at < FIELDS {
-            self.codes[at] = n;
-            return self;
-        }
+        let flag = flag_after(self.code(CHANGED), self.code(at), n);
+        self.set(CHANGED, flag);
+        self.set(at, n);
         self
     }
 
     // The batch number goes on by one, the last to the first.
-    pub fn advance(self) -> Knowledge
+    pub fn advance(mut self) -> Knowledge
         ensures { result ≡ advanced self }
     {
         let code = self.code(NUMBER);
         if code == ANY {
-            return self.put(NUMBER, ANY);
+            self.set(NUMBER, ANY);
+            return self;
         }
         if code < NUMBER_RANGE.high {
-            return self.put(NUMBER, code + 1);
+            self.set(NUMBER, code + 1);
+            return self;
         }
-        self.put(NUMBER, NUMBER_RANGE.low)
+        self.set(NUMBER, NUMBER_RANGE.low);
+        self
     }
 }

@@ -170,51 +170,52 @@ fn characters_formed(a: u8, b: u8, c: u8, d: u8, e: u8, f: u8) -> bool
 }
 
 // A field is in one set or the other, as the bit of this weight is set or not.
-fn show_bit(k: Knowledge, at: usize, x: u8, weight: u8, with: u32, without: u32) -> Knowledge
-    ensures { result ≡ restricted at (pick (lit weight x) with without) k }
+fn show_bit(k: &mut Knowledge, at: usize, x: u8, weight: u8, with: u32, without: u32)
+    ensures { k.new ≡ restricted at (pick (lit weight x) with without) k.old }
 {
     if x & weight == weight {
-        return k.restrict(at, with);
+        k.narrow(at, with);
+        return;
     }
-    k.restrict(at, without)
+    k.narrow(at, without);
 }
 
 // A1 of EQ.
-fn show_first(k: Knowledge, x: u8) -> Knowledge
-    ensures { result ≡ bits_shown x first k }
+fn show_first(k: &mut Knowledge, x: u8)
+    ensures { k.new ≡ bits_shown x first k.old }
 {
-    let keypad = show_bit(k, KEYPAD, x, 8, ON, OFF);
-    let running = show_bit(keypad, PHASE, x, 4, RUNNING, NOT_RUNNING);
-    let flow = show_bit(running, FLOW, x, 2, ON, OFF);
-    show_bit(flow, PHASE, x, 1, BEGUN, NOT_BEGUN)
+    show_bit(k, KEYPAD, x, 8, ON, OFF);
+    show_bit(k, PHASE, x, 4, RUNNING, NOT_RUNNING);
+    show_bit(k, FLOW, x, 2, ON, OFF);
+    show_bit(k, PHASE, x, 1, BEGUN, NOT_BEGUN);
 }
 
 // A2 of EQ.
-fn show_second(k: Knowledge, x: u8) -> Knowledge
-    ensures { result ≡ bits_shown x second k }
+fn show_second(k: &mut Knowledge, x: u8)
+    ensures { k.new ≡ bits_shown x second k.old }
 {
-    let begun = show_bit(k, PHASE, x, 8, RUNNING_OR_STOPPED, NEITHER);
-    let done = show_bit(begun, PHASE, x, 4, DONE, NOT_DONE);
-    show_bit(done, RESET, x, 2, ON, OFF)
+    show_bit(k, PHASE, x, 8, RUNNING_OR_STOPPED, NEITHER);
+    show_bit(k, PHASE, x, 4, DONE, NOT_DONE);
+    show_bit(k, RESET, x, 2, ON, OFF);
 }
 
 // A3 of EQ.
-fn show_third(k: Knowledge, x: u8) -> Knowledge
-    ensures { result ≡ bits_shown x third k }
+fn show_third(k: &mut Knowledge, x: u8)
+    ensures { k.new ≡ bits_shown x third k.old }
 {
-    show_bit(k, ALARMS, x, 1, SOME_ALARM, NO_ALARM)
+    show_bit(k, ALARMS, x, 1, SOME_ALARM, NO_ALARM);
 }
 
 // A4 of EQ.
-fn show_fourth(k: Knowledge, x: u8) -> Knowledge
-    ensures { result ≡ bits_shown x fourth k }
+fn show_fourth(k: &mut Knowledge, x: u8)
+    ensures { k.new ≡ bits_shown x fourth k.old }
 {
-    let changed = show_bit(k, CHANGED, x, 8, ON, OFF);
-    show_bit(changed, POWERFAIL, x, 1, ON, OFF)
+    show_bit(k, CHANGED, x, 8, ON, OFF);
+    show_bit(k, POWERFAIL, x, 1, ON, OFF);
 }
 
 // EQ
-fn show_status(k: Knowledge, s: &[u8]) -> Knowledge
+fn show_status(mut k: Knowledge, s: &[u8]) -> Knowledge
     ensures { result ≡ status_shown s.now k }
 {
     if s.len() != 6 {
@@ -227,7 +228,11 @@ fn show_status(k: Knowledge, s: &[u8]) -> Knowledge
     if !characters_formed(a, b, c, d, s[4], s[5]) {
         return k.refuted();
     }
-    show_fourth(show_third(show_second(show_first(k, a), b), c), d)
+    show_first(&mut k, a);
+    show_second(&mut k, b);
+    show_third(&mut k, c);
+    show_fourth(&mut k, d);
+    k
 }
 
 // How far the codes of RS are read, and what is known then.
@@ -238,46 +243,39 @@ struct Walk {
 }
 
 // One code of RS: it stands next and is on, or it is off.
-fn show_code(walk: Walk, s: &[u8], word: &[u8], field: usize, with: u32, without: u32) -> Walk
-    requires { (walk.at ≤ length s.now) × (length word.now ≤ 8) }
-    ensures { (left_of s.now result ≡ word_shown word.now field with without (left_of s.now walk)) × (result.at ≤ length s.now) }
+fn show_code(walk: &mut Walk, s: &[u8], word: &[u8], field: usize, with: u32, without: u32)
+    requires { (walk.old.at ≤ length s.now) × (length word.now ≤ 8) }
+    ensures { (left_of s.now walk.new ≡ word_shown word.now field with without (left_of s.now walk.old)) × (walk.new.at ≤ length s.now) }
 {
     let at = walk.at;
-    let k = walk.known;
     if word_at(s, at, word) {
-        let known = k.restrict(field, with);
-        return Walk {
-            at: at + word.len(),
-            known: known,
-        };
+        walk.at = at + word.len();
+        walk.known.narrow(field, with);
+        return;
     }
-    let known = k.restrict(field, without);
-    Walk {
-        at: at,
-        known: known,
-    }
+    walk.known.narrow(field, without);
 }
 
 // The codes of flags.
-fn show_flag_codes(walk: Walk, s: &[u8]) -> Walk
-    requires { walk.at ≤ length s.now }
-    ensures { (codes_shown phase_codes (left_of s.now result) ≡ codes_shown flag_codes (left_of s.now walk)) × (result.at ≤ length s.now) }
+fn show_flag_codes(walk: &mut Walk, s: &[u8])
+    requires { walk.old.at ≤ length s.now }
+    ensures { (codes_shown phase_codes (left_of s.now walk.new) ≡ codes_shown flag_codes (left_of s.now walk.old)) × (walk.new.at ≤ length s.now) }
 {
-    let flow = show_code(walk, s, b"FL ", FLOW, ON, OFF);
-    let reset = show_code(flow, s, b"BD ", RESET, ON, OFF);
-    let changed = show_code(reset, s, b"PC ", CHANGED, ON, OFF);
-    let powerfail = show_code(changed, s, b"PF ", POWERFAIL, ON, OFF);
-    show_code(powerfail, s, b"PW ", KEYPAD, ON, OFF)
+    show_code(walk, s, b"FL ", FLOW, ON, OFF);
+    show_code(walk, s, b"BD ", RESET, ON, OFF);
+    show_code(walk, s, b"PC ", CHANGED, ON, OFF);
+    show_code(walk, s, b"PF ", POWERFAIL, ON, OFF);
+    show_code(walk, s, b"PW ", KEYPAD, ON, OFF);
 }
 
 // The codes of phases.
-fn show_phase_codes(walk: Walk, s: &[u8]) -> Walk
-    requires { walk.at ≤ length s.now }
-    ensures { (codes_shown [] (left_of s.now result) ≡ codes_shown phase_codes (left_of s.now walk)) × (result.at ≤ length s.now) }
+fn show_phase_codes(walk: &mut Walk, s: &[u8])
+    requires { walk.old.at ≤ length s.now }
+    ensures { (codes_shown [] (left_of s.now walk.new) ≡ codes_shown phase_codes (left_of s.now walk.old)) × (walk.new.at ≤ length s.now) }
 {
-    let done = show_code(walk, s, b"TD ", PHASE, DONE, NOT_DONE);
-    let begun = show_code(done, s, b"TP ", PHASE, RUNNING_OR_STOPPED, NEITHER);
-    show_code(begun, s, b"RL ", PHASE, RUNNING, NOT_RUNNING)
+    show_code(walk, s, b"TD ", PHASE, DONE, NOT_DONE);
+    show_code(walk, s, b"TP ", PHASE, RUNNING_OR_STOPPED, NEITHER);
+    show_code(walk, s, b"RL ", PHASE, RUNNING, NOT_RUNNING);
 }
 
 // RS
@@ -287,11 +285,12 @@ fn show_codes(k: Knowledge, s: &[u8]) -> Knowledge
     if !word_at(s, 0, b"RS ") {
         return k.refuted();
     }
-    let start = Walk { at: 3, known: k };
-    let alarm = show_code(start, s, b"AL ", ALARMS, SOME_ALARM, NO_ALARM);
-    let end = show_phase_codes(show_flag_codes(alarm, s), s);
-    let known = end.known;
-    if end.at != s.len() {
+    let mut walk = Walk { at: 3, known: k };
+    show_code(&mut walk, s, b"AL ", ALARMS, SOME_ALARM, NO_ALARM);
+    show_flag_codes(&mut walk, s);
+    show_phase_codes(&mut walk, s);
+    let known = walk.known;
+    if walk.at != s.len() {
         return known.refuted();
     }
     known

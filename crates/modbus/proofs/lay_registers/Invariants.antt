@@ -8,7 +8,7 @@ use Rattle.modbus.specs.Reply.{registers}
 use Rattle.modbus.proofs.lay_registers.Given as goal
 
 abbrev pub invariant-loop-i : goal.invariant-loop-i
-invariant-loop-i l =     (l.i ≤ l.count) × ((length l.out ≡ length l.initial.out) × (l.out ≡ over (take 3 l.initial.out ++ registers l.values l.start l.i) l.initial.out))
+invariant-loop-i l = (l.i ≤ l.count) × ((length l.out ≡ length l.initial.out) × (l.out ≡ over (take 3 l.initial.out ++ registers l.values l.start l.i) l.initial.out))
 
 abbrev pub decreases-loop-i : goal.decreases-loop-i
 decreases-loop-i l = l.count - l.i

@@ -9,7 +9,7 @@ use Rattle.several.proofs.OfBanked.{address_in}
 use Rattle.several.proofs.call_banked.Given as goal
 
 abbrev pub invariant-loop-place : goal.invariant-loop-place
-invariant-loop-place l =     Walking called_banked valid address_in l.bytes l.initial.out l.initial.held l.out l.taken l.answered l.written l.held
+invariant-loop-place l = Walking called_banked valid address_in l.bytes l.initial.out l.initial.held l.out l.taken l.answered l.written l.held
 
 abbrev pub decreases-loop-place : goal.decreases-loop-place
 decreases-loop-place l = length l.bytes - l.taken

@@ -6,11 +6,11 @@ use Rattle.showing.proofs.show_codes.Goals as goal
 pub returns-then-not-word_at : goal.returns-then-not-word_at
 returns-then-not-word_at c = search List-read
 
-pub show_code-alarm-requires : goal.show_code-alarm-requires
-show_code-alarm-requires c = search (list_room, rules)
+pub show_code-requires : goal.show_code-requires
+show_code-requires c = search (list_room, rules)
 
-pub returns-then-end-s : goal.returns-then-end-s
-returns-then-end-s c = search List-read
+pub returns-then-walk-s : goal.returns-then-walk-s
+returns-then-walk-s c = search List-read
 
 pub returns : goal.returns
 returns c = search List-read

@@ -8,7 +8,7 @@ use Rattle.text.specs.Word.{digits}
 use Rattle.text.proofs.fill_digits.Given as goal
 
 abbrev pub invariant-loop-left : goal.invariant-loop-left
-invariant-loop-left l =     (l.left ≤ length l.out) × ((length l.out ≡ length l.initial.out) × (digits l.left l.rest ++ drop l.left l.out ≡ digits (length l.initial.out) l.n))
+invariant-loop-left l = (l.left ≤ length l.out) × ((length l.out ≡ length l.initial.out) × (digits l.left l.rest ++ drop l.left l.out ≡ digits (length l.initial.out) l.n))
 
 abbrev pub decreases-loop-left : goal.decreases-loop-left
 decreases-loop-left l = l.left
