@@ -12,7 +12,6 @@ use Rattle.base.proofs.Tests.{between_yes}
 use Rattle.state.specs.Field.{address, phase, raw, get}
 use Rattle.state.proofs.Validity.{valid_tell}
 use Rattle.bank.specs.declared.Bank.{Bank}
-use Rattle.bank.specs.declared.Batch.{Batch}
 use Rattle.bank.specs.declared.Newest.TheVariants as newest
 use Rattle.bank.specs.Bank.{most, batch_of, keep_of, is_kept, batch_at, newest_of}
 use Rattle.bank.proofs.Theorems.{Valid, stored_newest, stored-first, stored_older, stored_kept, stored_gone}

@@ -19,7 +19,6 @@ use Rattle.state.specs.Valid.{within}
 use Rattle.state.specs.Valid as state
 use Rattle.state.proofs.Kept.{field_in}
 use Rattle.state.proofs.Parameters.{range-given-kind}
-use Rattle.bank.specs.declared.Bank.{Bank}
 use Rattle.bank.specs.Bank.{all_within, batch_valid, batch_of, keep_of}
 use Rattle.bank.specs.Bank as bank
 use Rattle.bank.proofs.Theorems.{valid_tell, keep_valid}

@@ -13,7 +13,7 @@ use Rattle.state.specs.declared.Place.{Place}
 use Rattle.state.specs.declared.Place.TheVariants.{At, Nothing}
 use Rattle.base.specs.Test.{pick, member}
 use Rattle.state.specs.Parameter.{parameter_count, place_of}
-use Rattle.state.specs.Field.{changed, value, level, access, get, put, phase_number, flag_number, on}
+use Rattle.state.specs.Field.{changed, value, level, get, put, phase_number, flag_number, on}
 use Rattle.state.specs.Event.{flag_after}
 use Rattle.state.proofs.Fields.{with_parts, with_lists, put-changed, put-value, put-level}
 use Rattle.command.specs.declared.Reading.{Reading}

@@ -10,7 +10,7 @@ use Rattle.base.specs.Test.{member}
 use Rattle.base.proofs.Tests.{by_test, between_no}
 use Rattle.state.specs.declared.Record.{Record}
 use Rattle.state.specs.Parameter.{parameter_count, range_at}
-use Rattle.state.specs.Field.{Field, access, phase, keypad, level, value, get, on}
+use Rattle.state.specs.Field.{Field, access, phase, keypad, level, get, on}
 use Rattle.state.specs.Valid.{within, valid}
 use Rattle.state.specs.Event.{idle, done}
 use Rattle.state.proofs.Parameters.{value_small}

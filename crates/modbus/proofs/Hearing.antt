@@ -8,7 +8,7 @@ use lib.ListN.{length}
 use borrow.Author.Tests.{le-leb, lt-leb, eq-eqb, ne_eqb, not-true, not-false}
 use Rattle.base.specs.Test.{unless}
 use Rattle.crc.specs.Crc.{crc_right}
-use Rattle.modbus.specs.Request.{Asked, M, exception, reads, writes, word_at, slave_in, function_in, start_in, count_in, byte_count_in, register_count, read_whole, write_whole, asked_read, asked_write, asked_function, asked_frame, asked_of}
+use Rattle.modbus.specs.Request.{M, exception, reads, writes, word_at, slave_in, function_in, start_in, count_in, byte_count_in, register_count, read_whole, write_whole, asked_read, asked_write, asked_function, asked_frame, asked_of}
 use Rattle.modbus.specs.Numbers.{asked_as}
 use Rattle.modbus.specs.declared.Asked as heard
 

@@ -15,7 +15,6 @@ use Rattle.state.specs.Valid.{valid}
 use Rattle.state.proofs.Parameters.{place_has_code}
 use Rattle.frame.specs.declared.Kind.{Kind}
 use Rattle.text.specs.Word.{digits}
-use Rattle.command.specs.Request.{shows}
 use Rattle.controller.proofs.ReadBack.{parameter_shown, AnswersAt, value_read}
 use Rattle.crc.specs.Crc.{crc_bytes, sealed}
 use Rattle.crc.proofs.Sealed.{sealed_right}

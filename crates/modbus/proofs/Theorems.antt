@@ -20,7 +20,6 @@ use Rattle.state.specs.Field.{Field, address, changed, value, get, position, sca
 use Rattle.state.specs.Valid.{within, valid}
 use Rattle.state.proofs.Fields.{pick_same}
 use Rattle.state.proofs.Validity.{all_at, valid_tell}
-use Rattle.bank.specs.declared.Bank.{Bank}
 use Rattle.bank.specs.Bank as bank
 use Rattle.command.specs.Commands.{acknowledged, applied}
 use Rattle.command.specs.Request.{Answered, no, shows}

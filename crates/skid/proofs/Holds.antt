@@ -1,6 +1,6 @@
 -- What the controller holds when SB goes out and when a change has ended, whatever its record and its bank were: a right reply is document
 -- 01's, of the record alone, and S1 is none. Assumes nothing.
-use Prim.Native.Nat.{ℕ, ◌+◌, ◌-◌, ◌≤◌}
+use Prim.Native.Nat.{ℕ, ◌+◌, ◌≤◌}
 use mathlib.Core.Bool.{true}
 use mathlib.Core.Path.{◌≡◌, refl, sym, ap, ◌∙◌, subst}
 use mathlib.Core.List.{List, [], ◌∷◌}

@@ -11,7 +11,6 @@ use Rattle.base.proofs.Tests.{between_yes}
 use Rattle.base.proofs.Lists.{over-take}
 use Rattle.text.proofs.Words.{equal-same}
 use Rattle.state.specs.declared.Record.{Record}
-use Rattle.state.specs.Field.{address}
 use Rattle.bank.specs.declared.Bank.{Bank}
 use Rattle.bank.specs.Bank as bank
 use Rattle.frame.specs.declared.Kind.TheVariants.{Minicomputer}

@@ -1,7 +1,6 @@
 -- `base::all_between` meets its contract. The loop's invariant: the answer for what is left is the answer for the whole.
 -- Assumes nothing.
 use mathlib.Core.Path.{refl}
-use Prim.Native.Nat.{◌-◌}
 use borrow.Author.Rules.{rules}
 use Rattle.base.proofs.Tests.{all_low, all_high, all_again, all_done}
 use Rattle.base.proofs.all_between.Goals as goal

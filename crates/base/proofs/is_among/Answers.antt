@@ -1,5 +1,4 @@
 -- `base::is_among` meets its contract: what is left of the list decides as the whole does. Assumes nothing.
-use Prim.Native.Nat.{◌-◌}
 use mathlib.Core.Path.{refl, sym, ◌∙◌}
 use borrow.Author.Rules.{rules}
 use Rattle.base.proofs.Tests.{member-end, member_found, member_turn}

@@ -1,5 +1,4 @@
 -- `board::distinct` meets its contract: what is left of the list decides as the whole does. Assumes nothing.
-use Prim.Native.Nat.{◌-◌}
 use mathlib.Core.Path.{refl}
 use borrow.Author.Rules.{rules}
 use Rattle.board.proofs.Laws.{distinct_found, distinct_turn, distinct_end}

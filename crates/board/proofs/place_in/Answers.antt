@@ -1,5 +1,4 @@
 -- `board::place_in` meets its contract: i stand before place i, and what is left gives the rest. Assumes nothing.
-use Prim.Native.Nat.{◌-◌}
 use mathlib.Core.Path.{sym}
 use native.Mathlib.Nat.{zero-add}
 use borrow.Author.Rules.{rules}

@@ -1,6 +1,5 @@
 -- `crc::check` meets its contract. The loop's invariant: the check of what is left, from what was gathered, is the whole one. Assumes
 -- nothing.
-use Prim.Native.Nat.{◌-◌}
 use borrow.Author.Rules.{rules}
 use Rattle.crc.proofs.Steps.{check_begun, check_again, check_done}
 use Rattle.crc.proofs.check.Goals as goal

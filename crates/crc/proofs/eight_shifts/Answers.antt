@@ -1,7 +1,6 @@
 -- `crc::eight_shifts` meets its contract. The loop's invariant: what is left of the eight shifts, from what was reached, comes to the
 -- whole. Assumes nothing.
 use mathlib.Core.Path.{refl}
-use Prim.Native.Nat.{◌-◌}
 use borrow.Author.Rules.{rules}
 use Rattle.crc.proofs.Steps.{shift_again, shift_done}
 use Rattle.crc.proofs.eight_shifts.Goals as goal

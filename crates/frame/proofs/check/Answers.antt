@@ -1,7 +1,6 @@
 -- `frame::check` meets its contract. The loop's invariant: the exclusive or of what is left, from what was gathered, is the
 -- whole one. Assumes nothing.
 use mathlib.Core.Path.{refl}
-use Prim.Native.Nat.{◌-◌}
 use borrow.Author.Rules.{rules}
 use Rattle.frame.proofs.Steps.{xor_again, xor_done}
 use Rattle.frame.proofs.check.Goals as goal

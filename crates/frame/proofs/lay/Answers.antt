@@ -1,7 +1,6 @@
 -- `frame::lay` meets its contract. The loop's invariant: the first i bytes are the source's, the others as they were.
 -- Assumes nothing.
 use mathlib.Core.Path.{refl}
-use Prim.Native.Nat.{◌-◌}
 use native.Mathlib.Omega.{arith}
 use borrow.Author.Rules.{rules}
 use lib.ListN.{length-set}

@@ -1,6 +1,5 @@
 -- `judging::follow` meets its contract: what passes and what is learnt of the whole is what has been and what will be of the rest, by the
 -- laws of `Loop` for what stands at the place; the measure is what is left of the bytes. Assumes nothing.
-use Prim.Native.Nat.{◌-◌}
 use borrow.Author.Rules.{rules}
 use Rattle.judging.proofs.Loop.{going_none, following, one_fits, one_nearer, spans-inside, one_passed}
 use Rattle.judging.proofs.follow.Goals as goal

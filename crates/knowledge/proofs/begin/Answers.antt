@@ -1,6 +1,5 @@
 -- `begin` meets its contract. The invariant: the fields of the first i parameters have their codes, and in all others any number is
 -- possible. Assumes nothing.
-use Prim.Native.Nat.{◌-◌}
 use mathlib.Core.Path.{refl}
 use Rattle.knowledge.specs.Sets.{mask_from}
 use Rattle.knowledge.proofs.Steps.{begun, begun_more, begun_all}

@@ -1,5 +1,4 @@
 -- `lay` meets its contract. The loop's invariant: the first i codes are laid, the others as they were. Assumes nothing.
-use Prim.Native.Nat.{◌-◌}
 use lib.ListN.{length-set}
 use Rattle.knowledge.proofs.Steps.{laying}
 use borrow.Author.Rules.{rules}

@@ -1,5 +1,4 @@
 -- `lent` meets its contract. The loop's invariant: the first i codes are the lent ones, the others as they were. Assumes nothing.
-use Prim.Native.Nat.{◌-◌}
 use Rattle.knowledge.proofs.Steps.{lending}
 use borrow.Author.Rules.{rules}
 use Rattle.knowledge.proofs.lent.Goals as goal

@@ -1,6 +1,5 @@
 -- `modbus::echo` meets its contract. The loop's invariant: the first i bytes of the request are copied over the buffer. Assumes nothing.
 use mathlib.Core.Path.{refl}
-use Prim.Native.Nat.{◌-◌}
 use native.Mathlib.Omega.{arith}
 use borrow.Author.Rules.{rules}
 use lib.ListN.{length-set}

@@ -1,6 +1,5 @@
 -- `modbus::lay_registers` meets its contract. The loop's invariant: the first three bytes and the bytes of i registers are laid over the buffer. Assumes nothing.
 use mathlib.Core.Path.{refl}
-use Prim.Native.Nat.{◌-◌}
 use native.Mathlib.Omega.{arith}
 use borrow.Author.Rules.{rules}
 use lib.ListN.{length-set}

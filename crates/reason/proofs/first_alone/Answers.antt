@@ -1,5 +1,4 @@
 -- `reason::first_alone` meets its contract: none before the place is one, by the laws of `Steps`; the measure is what is left. Assumes nothing.
-use Prim.Native.Nat.{◌-◌}
 use Rattle.reason.proofs.Steps.{searched-none, searched_on, searching}
 use borrow.Author.Rules.{rules}
 use Rattle.reason.proofs.first_alone.Goals as goal

@@ -1,6 +1,5 @@
 -- `recording::count_exchanges` meets its contract: the count of the whole is n and the count of what is left, by the laws of `Laws` for
 -- what stands at the place; the measure is what is left of the bytes. Assumes nothing.
-use Prim.Native.Nat.{◌-◌}
 use borrow.Author.Rules.{rules}
 use Rattle.recording.proofs.Laws.{counted_none, counted_all, counted-cut, counted_one, one_fits, one_nearer}
 use Rattle.recording.proofs.count_exchanges.Goals as goal

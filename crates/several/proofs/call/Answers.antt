@@ -1,6 +1,5 @@
 -- `several::call` meets its contract: `Walking` holds at each turn; one law for each way on and each way out. The measure is the bytes left.
 -- Assumes nothing.
-use Prim.Native.Nat.{◌-◌}
 use borrow.Author.Rules.{rules}
 use Rattle.state.specs.Valid.{valid}
 use Rattle.several.specs.Several.{called_record, several_of}

@@ -1,6 +1,5 @@
 -- `several::call_banked` meets its contract: `Walking` holds at each turn; one law for each way on and each way out. The measure is the bytes
 -- left. Assumes nothing.
-use Prim.Native.Nat.{◌-◌}
 use borrow.Author.Rules.{rules}
 use Rattle.banked.specs.Banked.{valid}
 use Rattle.several.specs.Beside.{called_banked, banked_several_of}

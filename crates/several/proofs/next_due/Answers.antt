@@ -1,6 +1,5 @@
 -- `several::next_due` meets its contract: `Turning` holds at each turn; one law for each way on and each way out. The measure is the bytes
 -- left. Assumes nothing.
-use Prim.Native.Nat.{◌-◌}
 use borrow.Author.Rules.{rules}
 use Rattle.several.proofs.Turns.{turn_begun, turn_stop, frame-places, next_fits, nearer_one, nearer_end, turn_on, turn_other, turn_room, text-fits, turn_answer}
 use Rattle.several.proofs.next_due.Goals as goal

@@ -1,6 +1,5 @@
 -- `several::next_frame` meets its contract: `Seeking` holds at each turn of the walk and `Searching` at each turn of the search; one law for
 -- each way on and each way out. The measures are the bytes left. Assumes nothing.
-use Prim.Native.Nat.{◌-◌}
 use Rattle.several.proofs.Places.{search_turn}
 use Rattle.several.proofs.Seek.{seek_begun, seek_end, search_started, seek_nearer, seek_open, seek_byte, seek_long, seek_short, seek_frame}
 use Rattle.several.proofs.next_frame.Goals as goal

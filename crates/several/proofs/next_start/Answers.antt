@@ -1,6 +1,5 @@
 -- `several::next_start` meets its contract: `Skipping` holds at each turn; one law for each way on and each way out. The measure is the bytes
 -- left. Assumes nothing.
-use Prim.Native.Nat.{◌-◌}
 use Rattle.several.proofs.Seek.{skip_begun, skip-end, skip_found, skip_turn}
 use Rattle.several.proofs.next_start.Goals as goal
 

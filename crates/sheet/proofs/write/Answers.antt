@@ -1,5 +1,4 @@
 -- `sheet::write` meets its contract: the lines of the first i recipes are laid. Assumes nothing.
-use Prim.Native.Nat.{◌-◌}
 use Rattle.text.proofs.Writing.{first-none}
 use Rattle.sheet.proofs.Laws.{lines_none, line_room_lem, lines_length, lines_more, lines_all}
 use borrow.Author.Rules.{rules}

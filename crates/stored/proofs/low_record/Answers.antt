@@ -1,5 +1,4 @@
 -- `stored::low_record` meets its contract. The invariant: the first i low ends are in their places. Assumes nothing.
-use Prim.Native.Nat.{◌-◌}
 use native.Mathlib.Omega.{arith}
 use Rattle.state.specs.Field.{phase_of, listed, record_from}
 use Rattle.stored.specs.Form.{low_record}

@@ -1,5 +1,4 @@
 -- `stored::number_in` meets its contract. The invariant: the number of the first i bytes. Assumes nothing.
-use Prim.Native.Nat.{◌-◌}
 use native.Mathlib.Omega.{arith}
 use Rattle.stored.proofs.Bytes.{begun_none, begun_high, begun_more, begun_all}
 use Rattle.stored.proofs.number_in.Goals as goal

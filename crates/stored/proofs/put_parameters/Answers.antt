@@ -1,5 +1,4 @@
 -- `stored::put_parameters` meets its contract. The invariant: the first i parameters' numbers are stored. Assumes nothing.
-use Prim.Native.Nat.{◌-◌}
 use mathlib.Core.Path.{refl}
 use native.Mathlib.Omega.{arith}
 use Rattle.stored.proofs.Writing.{parameters_none, parameters_more, parameters_all}

@@ -1,5 +1,4 @@
 -- `stored::put_scalars` meets its contract. The invariant: the numbers at the first places are stored. Assumes nothing.
-use Prim.Native.Nat.{◌-◌}
 use mathlib.Core.Path.{refl}
 use native.Mathlib.Omega.{arith}
 use Rattle.stored.proofs.Writing.{scalars_none, scalars_more, scalars_all}

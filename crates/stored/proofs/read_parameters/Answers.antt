@@ -1,5 +1,4 @@
 -- `stored::read_parameters` meets its contract. The invariants: the record is what the numbers of the parameters so far make of it. Assumes nothing.
-use Prim.Native.Nat.{◌-◌}
 use native.Mathlib.Omega.{arith}
 use Rattle.stored.proofs.Taking.{begun, one_outside, both_inside, all_taken, recipe-range, recipe_begun, next_kind, recipe-ended, recipes-ended}
 use Rattle.stored.proofs.read_parameters.Goals as goal

@@ -1,5 +1,4 @@
 -- `storedbank::put_batches` meets its contract. The invariant: the first i batches are stored. Assumes nothing.
-use Prim.Native.Nat.{◌-◌}
 use mathlib.Core.Path.{refl}
 use native.Mathlib.Omega.{arith}
 use Rattle.bank.proofs.Shift.{full}

@@ -1,5 +1,4 @@
 -- `storedbank::read_batches` meets its contract. The invariant: the first i batches are read, and are valid. Assumes nothing.
-use Prim.Native.Nat.{◌-◌}
 use native.Mathlib.Omega.{arith}
 use Rattle.storedbank.proofs.Taking.{taken_none, taken_more, taken_outside, taken_all}
 use borrow.Author.Rules.{rules}

@@ -1,5 +1,4 @@
 -- `storedboard::read_records` meets its contract: what is left of the forms decides as all of them do. Assumes nothing.
-use Prim.Native.Nat.{◌-◌}
 use borrow.Author.Rules.{rules}
 use Rattle.storedboard.proofs.Reading.{none_yet, all_read, part_fits, found_refused, one_more}
 use Rattle.storedboard.proofs.read_records.Goals as goal

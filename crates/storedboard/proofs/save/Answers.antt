@@ -1,6 +1,6 @@
 -- `storedboard::save` meets its contract. The invariant: nothing is written, and the records that are left decide as all of them do.
 -- Assumes nothing.
-use Prim.Native.Nat.{◌-◌, ◌<◌}
+use Prim.Native.Nat.{◌<◌}
 use mathlib.Core.Path.{◌≡◌, ap}
 use native.Mathlib.Omega.{arith}
 use lib.ListN.{length}

@@ -1,6 +1,5 @@
 -- `text::is_word` meets its contract. The loop's invariant: what is left of both is equal as both are. Assumes nothing.
 use mathlib.Core.Path.{refl}
-use Prim.Native.Nat.{◌-◌}
 use borrow.Author.Rules.{rules}
 use Rattle.text.proofs.Words.{word-length, word_differs, word_again, word-done}
 use Rattle.text.proofs.is_word.Goals as goal

@@ -1,7 +1,6 @@
 -- `text::put_word` meets its contract. The loop's invariant: the first i bytes of the word stand at the place, all else as it
 -- was. Assumes nothing.
 use mathlib.Core.Path.{refl, sym}
-use Prim.Native.Nat.{◌-◌}
 use borrow.Author.Rules.{rules}
 use lib.ListN.{length-set}
 use Rattle.base.proofs.Lists.{over_at-none}

@@ -1,6 +1,5 @@
 -- `text::value` meets its contract. The loop's invariant: n is the number of the first i digits, of at most i digits itself.
 -- Assumes nothing.
-use Prim.Native.Nat.{◌-◌}
 use native.Mathlib.Omega.{arith}
 use lib.ListN.{get_or}
 use Rattle.text.proofs.Words.{Room, reading_start, reading_room, reading_again, reading_done}

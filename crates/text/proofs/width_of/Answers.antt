@@ -1,7 +1,6 @@
 -- `text::width_of` meets its contract. The loop's invariant: the digits passed and those of the rest are one more than the
 -- number's. Assumes nothing.
 use mathlib.Core.Path.{refl}
-use Prim.Native.Nat.{◌-◌}
 use borrow.Author.Rules.{rules}
 use Rattle.text.proofs.Writing.{width_again, width_done, width_full}
 use Rattle.text.proofs.width_of.Goals as goal

@@ -1,5 +1,4 @@
 -- `totalling::add_batches` meets its contract: the sums and the numbers are those of the first i batches. Assumes nothing.
-use Prim.Native.Nat.{◌-◌}
 use native.Mathlib.Omega.{arith}
 use Rattle.totalling.proofs.Adding.{added_none, here_out, Room, room, added_more, added_all}
 use borrow.Author.Rules.{rules}

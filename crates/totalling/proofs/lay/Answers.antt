@@ -1,5 +1,4 @@
 -- `totalling::lay` meets its contract: the first i sums and numbers are laid, the others as they were. Assumes nothing.
-use Prim.Native.Nat.{◌-◌}
 use Rattle.totalling.proofs.Laying.{short-sums, short-counts, laying_none, laying_more, laying_all}
 use borrow.Author.Rules.{rules}
 use Rattle.totalling.proofs.lay.Goals as goal

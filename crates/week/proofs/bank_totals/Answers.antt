@@ -1,5 +1,4 @@
 -- `week::bank_totals` meets its contract: the lists hold the numbers of the first i batches. Assumes nothing.
-use Prim.Native.Nat.{◌-◌}
 use Rattle.bank.proofs.Shift.{full}
 use Rattle.week.proofs.Laws.{filled_none, filled_more, filled_all, part}
 use borrow.Author.Rules.{rules}

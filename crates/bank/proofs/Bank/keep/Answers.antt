@@ -1,5 +1,4 @@
 -- `bank::Bank::keep` meets its contract: the loop has moved the first i one place to the front. Assumes nothing.
-use Prim.Native.Nat.{◌-◌}
 use native.Mathlib.Omega.{arith}
 use Rattle.bank.proofs.Shift.{shift_none, shift_more, keep_room, keep_full, full}
 use borrow.Author.Rules.{rules}

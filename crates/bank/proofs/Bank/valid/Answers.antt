@@ -1,5 +1,4 @@
 -- `bank::Bank::valid` meets its contract: what is left of the batches has the answer of the whole. Assumes nothing.
-use Prim.Native.Nat.{◌-◌}
 use mathlib.Core.Path.{refl}
 use native.Mathlib.Omega.{arith}
 use Rattle.bank.proofs.Shift.{full}

@@ -1,5 +1,4 @@
 -- `state::Record::valid` meets its contract: the loops have passed the recipes before `recipe`, and then the places below `place`. Assumes nothing.
-use Prim.Native.Nat.{◌-◌}
 use native.Mathlib.Omega.{arith}
 use borrow.Author.Rules.{rules}
 use Rattle.state.proofs.Validity.{values_more, recipes-none, recipe_more, recipes_all, not-valid_scalars, not-valid_levels, not-valid-recipe, not-valid-value, valid_all}
