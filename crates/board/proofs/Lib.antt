@@ -1,5 +1,4 @@
 pub mod Laws
-pub mod Values
 pub mod Search
 pub mod Requests
 pub mod Theorems
