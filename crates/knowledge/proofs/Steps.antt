@@ -6,7 +6,7 @@ use mathlib.Core.List.{List, [], ◌∷◌, ◌++◌, map, map-append, append_as
 use native.Mathlib.Numerals.{add-one}
 use native.Mathlib.Omega.{arith}
 use lib.Dec.{eqb}
-use lib.ListN.{get_or-eq_default, length, get_or, set, take, drop, replicate, length-set, length-append, drop_of_length-le}
+use lib.ListN.{get_or-eq_default, length, get_or, set, take, drop, replicate, length-append, drop_of_length-le}
 use lib.Seq.{set_out, set_at}
 use lib.Bits.{bit_and}
 use borrow.Author.Tests.{eq-eqb, ne_eqb, le-leb, lt-leb, lt-ltb, le-ltb, not-true, not-false}
@@ -19,7 +19,7 @@ use Rattle.state.specs.Field.{address, access, number, alarms, value, level, pos
 use Rattle.state.specs.Valid.{within}
 use Rattle.knowledge.specs.declared.Knowledge.{Knowledge}
 use Rattle.knowledge.specs.Sets.{bit, mask_from, any_number, any_lasting, above, alarms_in, just_alarms, reset_code, on_mask, or_on, flag_code, has, any, alone}
-use Rattle.knowledge.specs.Knowledge.{code_at, dead, recoded, restricted, told, settled, advanced, alarms_left, replacing, start, lent_in, laid_in}
+use Rattle.knowledge.specs.Knowledge.{code_at, dead, recoded, restricted, told, settled, advanced, alarms_left, start, lent_in, laid_in}
 
 -- ---- one code: beyond the last position there is none
 module _ (k : Knowledge) (p n : ℕ) (full : length k.codes ≡ n) (beyond : n ≤ p) where
@@ -165,14 +165,6 @@ module _ (n held flag : ℕ) where
     unfolding flag_code
     flag_on e = simp (ne_eqb _ _ other, ne_eqb _ _ e)
 
-module _ (k s : Knowledge) (p n q d e : ℕ) (held : d ≡ code_at p k) (flag : e ≡ flag_code n d (get_or k.codes q 0)) where
-  pub replace_stored : s ≡ recoded p n (recoded q e k) → s ≡ replacing p n q k
-  unfolding replacing code_at
-  replace_stored h = h ∙ ap (λ (x : ℕ). recoded p n (recoded q x k)) (flag ∙ ap (λ (x : ℕ). flag_code n x (code_at q k)) held)
-
-  pub replace_beyond : (m : ℕ) → length k.codes ≡ m → m ≤ p → s ≡ recoded q e k → s ≡ replacing p n q k
-  replace_beyond m full l h = replace_stored (h ∙ put_beyond (recoded q e k) p m (length-set k.codes q e ∙ full) l n)
-
 -- a level may be any
 abbrev any_level : ℕ
 any_level = 0xf
@@ -274,5 +266,3 @@ pub ruleset just = (just_none, just_some)
 pub ruleset settling = (settle_other, settle_own)
 
 pub ruleset flagging = (flag_same, flag_either, flag_on)
-
-pub ruleset replacing-stored = (replace_stored, replace_beyond)

@@ -5,7 +5,7 @@ use Rattle.modbus.proofs.Laying.{register_high, register_low}
 use Rattle.modbus.proofs.register.Goals as goal
 
 pub returns-then-number-eq0 : goal.returns-then-number-eq0
-returns-then-number-eq0 c = (search register_high, omega (arith, c.shared_slice_known-1.given (c.args.number / 2)))
+returns-then-number-eq0 c = (search register_high, omega (arith, c.type_inv.values (c.args.number / 2)))
 
 pub returns : goal.returns
 returns c = (search register_low, omega arith)

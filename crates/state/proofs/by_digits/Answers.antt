@@ -1,18 +1,19 @@
 -- `state::by_digits` meets its contract: no recipe, one arm for each kind, and one for other units. Assumes nothing.
+use borrow.Author.Rules.{rules}
 use Rattle.state.proofs.Parameters.{digits_outside, digits_inside, digits-none}
 use Rattle.state.proofs.by_digits.Goals as goal
 
 pub returns-then-not-recipe : goal.returns-then-not-recipe
-returns-then-not-recipe c = digits_outside _ c.if-not-recipe.true-raw
+returns-then-not-recipe c = digits_outside _ (search rules)
 
 pub returns-in-1 : goal.returns-in-1
-returns-in-1 c = digits_inside _ c.if-not-recipe.false-raw _ (simp c.in-1.is)
+returns-in-1 c = digits_inside _ (search rules) _ (simp c.in-1.is)
 
 pub returns-in-2 : goal.returns-in-2
-returns-in-2 c = digits_inside _ c.if-not-recipe.false-raw _ (simp c.in-2.is)
+returns-in-2 c = digits_inside _ (search rules) _ (simp c.in-2.is)
 
 pub returns-in-3 : goal.returns-in-3
-returns-in-3 c = digits_inside _ c.if-not-recipe.false-raw _ (simp c.in-3.is)
+returns-in-3 c = digits_inside _ (search rules) _ (simp c.in-3.is)
 
 pub returns-in_default : goal.returns-in_default
-returns-in_default c = let others = c.in_default.in_default-own.rest in digits-none _ c.if-not-recipe.false-raw others.0.0.1 others.0.1 others.1
+returns-in_default c = search (digits-none, rules)

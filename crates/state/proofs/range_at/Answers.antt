@@ -1,4 +1,5 @@
 -- `state::range_at` meets its contract: a recipe's parameter has the range of its kind, and the tables are the system's ranges. Assumes nothing.
+use borrow.Author.Rules.{rules}
 use Rattle.state.proofs.Parameters.{range-given-recipe, range-given-third, range-given_system, range_beyond}
 use Rattle.state.proofs.range_at.Goals as goal
 
@@ -15,4 +16,4 @@ pub returns-in-1 : goal.returns-in-1
 returns-in-1 c = range-given-recipe _ c.if-place.false 1 c.in-1.is
 
 pub returns-in_default : goal.returns-in_default
-returns-in_default c = let others = c.in_default.in_default-own.rest in range-given-third _ c.if-place.false others.0.1 others.1
+returns-in_default c = search (range-given-third, rules)

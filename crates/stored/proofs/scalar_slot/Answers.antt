@@ -28,4 +28,4 @@ pub returns-in-7 : goal.returns-in-7
 returns-in-7 c = search (scalar_here 7)
 
 pub returns-in_default : goal.returns-in_default
-returns-in_default c = scalar_last c.in_default.in_default-own.rest c.requires (search rules)
+returns-in_default c = search (scalar_last, rules)

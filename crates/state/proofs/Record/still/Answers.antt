@@ -1,4 +1,5 @@
 -- `state::Record::still` meets its contract: unchanged if not valid, else the flag off. Assumes nothing.
+use borrow.Author.Rules.{rules}
 use mathlib.Core.Path.{refl}
 use Rattle.state.specs.Field.{put}
 use Rattle.state.proofs.Events.{after_invalid, after_valid}
@@ -10,4 +11,4 @@ returns-then-not-valid c = search after_invalid
 
 pub returns : goal.returns
 unfolding put
-returns c = after_valid _ _ c.valid.ensures c.if-not-valid.false-raw Still _ refl
+returns c = after_valid _ _ c.valid.ensures (search rules) Still _ refl

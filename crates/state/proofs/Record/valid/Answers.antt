@@ -17,7 +17,7 @@ pub returns-then-not-recipe_valid : goal.returns-then-not-recipe_valid
 returns-then-not-recipe_valid c =
     not-valid-recipe _ _ _ _ _ _
     c.recipe_place.ensures c.recipe_place-in-loop-recipe.ensures c.recipe_place-in-loop-recipe-2.ensures c.loop-recipe.invariant.0 (omega arith) c.recipe_valid.ensures
-    c.if-not-recipe_valid.true-raw
+    (search rules)
 
 pub loop-recipe-preserved : goal.loop-recipe-preserved
 loop-recipe-preserved c = (
@@ -25,17 +25,17 @@ loop-recipe-preserved c = (
   omega arith,
   recipe_more _ _ _ _ _ _
       c.recipe_place.ensures c.recipe_place-in-loop-recipe.ensures c.recipe_place-in-loop-recipe-2.ensures c.loop-recipe.invariant.0 (omega arith) c.recipe_valid.ensures
-      c.if-not-recipe_valid.false-raw c.loop-recipe.invariant.2,
+      (search rules) c.loop-recipe.invariant.2,
 )
 
 pub loop-place-init : goal.loop-place-init
 loop-place-init c = search (recipes_all, rules)
 
 pub returns-then-not-within : goal.returns-then-not-within
-returns-then-not-within c = not-valid-value _ _ _ _ c.range_at.ensures c.within.ensures c.if-not-within.true-raw c.loop-place-test.true
+returns-then-not-within c = not-valid-value _ _ _ _ c.range_at.ensures c.within.ensures (search rules) c.loop-place-test.true
 
 pub loop-place-preserved : goal.loop-place-preserved
-loop-place-preserved c = values_more _ _ _ _ c.range_at.ensures c.within.ensures c.loop-place.invariant c.if-not-within.false-raw
+loop-place-preserved c = values_more _ _ _ _ c.range_at.ensures c.within.ensures c.loop-place.invariant (search rules)
 
 pub returns : goal.returns
 returns c = search (valid_all, rules)
