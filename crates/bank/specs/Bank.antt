@@ -1,5 +1,5 @@
 -- Document 02, L7: the finished batches that are kept.
-use Rattle.std.specs.Prelude.{ℕ, ◌+◌, ◌-◌, Bool, true, false, ◌&&◌, List, [], ◌∷◌, ◌++◌, eqb, leb, ltb, length, get_or, set, take, drop, replicate}
+use Rattle.std.specs.Prelude.{ℕ, ◌+◌, ◌-◌, Bool, true, false, ◌&&◌, List, [], ◌∷◌, ◌++◌, eqb, leb, ltb, length, get_or, set, take, drop, replicate, Option, Some, None}
 use Rattle.base.specs.Test.{pick, between}
 use Rattle.state.specs.declared.Record.{Record}
 use Rattle.state.specs.declared.Range.{Range}
@@ -9,8 +9,6 @@ use Rattle.state.specs.Field.{recipe, preset, raw, number, value, get, field_ran
 use Rattle.state.specs.Valid.{within}
 use Rattle.bank.specs.declared.Batch.{Batch}
 use Rattle.bank.specs.declared.Bank.{Bank}
-use Rattle.bank.specs.declared.Newest.{Newest}
-use Rattle.bank.specs.declared.Newest.TheVariants as newest
 
 -- ---- "number, recipe, factor, raw and preset"
 abbrev pub batch_numbers : Batch → List ℕ
@@ -85,8 +83,8 @@ is_kept n k = between 1 k.count n
 abbrev pub batch_at : ℕ → Bank → Batch
 batch_at n k = get_or k.batches (k.count - n) no_batch
 
-unfoldable pub newest_of : ℕ → Bank → Newest
-newest_of n k = pick (is_kept n k) (newest.Batch (batch_at n k)) newest.Nothing
+unfoldable pub newest_of : ℕ → Bank → Option Batch
+newest_of n k = pick (is_kept n k) (Some (batch_at n k)) None
 
 abbrev pub empty_bank : Bank
 empty_bank = bank_of 0 (replicate most no_batch)

@@ -21,34 +21,40 @@ pub struct Batch {
     pub preset: u32,
 }
 
-// The first `count` are kept; the others are free room.
+// What free room holds.
+const NO_BATCH: Batch = Batch {
+    number: 0,
+    recipe: 0,
+    factor: 0,
+    raw: 0,
+    preset: 0,
+};
+
+// The first `count` are kept; the others are free room. A count beside an array: there is no heap, and `keep` and `newest` promise what
+// becomes of a bank that counts too many, too.
 #[derive(Clone, Copy)]
 pub struct Bank {
     pub count: usize,
     pub batches: [Batch; MOST],
 }
 
-// The batch that is asked for, if it is kept.
-#[derive(Clone, Copy)]
-pub enum Newest {
-    Batch(Batch),
-    Nothing,
-}
-
 impl Batch {
     // Each field lies in its own range.
+    #[tactic(auto, unfolding(crate::specs::Bank::batch_valid, crate::specs::Bank::all_within))]
     pub fn valid(self) -> bool
         ensures { result ≡ batch_valid self }
     {
-        let set = within(RAW_RANGE, self.raw) & within(PRESET_RANGE, self.preset);
-        let blended = within(RECIPE_RANGE, self.recipe as u32)
-            & (within(FACTOR_RANGE, self.factor) & set);
-        within(NUMBER_RANGE, self.number as u32) & blended
+        within(NUMBER_RANGE, u32::from(self.number))
+            && within(RECIPE_RANGE, u32::from(self.recipe))
+            && within(FACTOR_RANGE, self.factor)
+            && within(RAW_RANGE, self.raw)
+            && within(PRESET_RANGE, self.preset)
     }
 }
 
 impl Bank {
     // At most 100 batches, each of whose fields lies in its range.
+    #[tactic(auto, unfolding(crate::specs::Bank::valid))]
     pub fn valid(self) -> bool
         ensures { result ≡ valid self }
     {
@@ -56,18 +62,11 @@ impl Bank {
         if MOST < count {
             return false;
         }
-        let mut i = 0;
-        while i < count {
-            let batch = self.batches[i];
-            if !batch.valid() {
-                return false;
-            }
-            i += 1;
-        }
-        true
+        self.batches[..count].iter().all(|batch| batch.valid())
     }
 
     // Stores one more; the oldest gives its room to it if there is no other.
+    #[tactic(auto, using(crate::proofs::Shift::keep_full), unfolding(crate::specs::Bank::keep_of))]
     pub fn keep(mut self, batch: Batch) -> Bank
         ensures { result ≡ keep_of batch self }
     {
@@ -77,62 +76,39 @@ impl Bank {
             self.count = count + 1;
             return self;
         }
-        let mut batches = self.batches;
-        let mut i = 0;
-        while i < MOST - 1 {
-            let next = batches[i + 1];
-            batches[i] = next;
-            i += 1;
-        }
-        batches[MOST - 1] = batch;
-        Bank {
-            count: count,
-            batches: batches,
-        }
+        self.batches.copy_within(1.., 0);
+        self.batches[MOST - 1] = batch;
+        self
     }
 
-    // The batch with this number, 1 the newest.
-    pub fn newest(self, n: u32) -> Newest
+    // The batch with this number, 1 the newest, if it is kept.
+    #[tactic(auto, unfolding(crate::specs::Bank::newest_of))]
+    pub fn newest(self, n: u32) -> Option<Batch>
         ensures { result ≡ newest_of n self }
     {
         let asked = n as usize;
         let count = self.count;
-        if asked == 0 {
-            return Newest::Nothing;
-        }
-        if count < asked {
-            return Newest::Nothing;
+        if asked == 0 || count < asked {
+            return None;
         }
         let at = count - asked;
         if at < MOST {
-            return Newest::Batch(self.batches[at]);
+            return Some(self.batches[at]);
         }
         // of a bank that counts more than it has room for
-        Newest::Batch(no_batch())
-    }
-}
-
-// What free room holds.
-fn no_batch() -> Batch
-    ensures { result ≡ no_batch }
-{
-    Batch {
-        number: 0,
-        recipe: 0,
-        factor: 0,
-        raw: 0,
-        preset: 0,
+        Some(NO_BATCH)
     }
 }
 
 // The batch that a record holds.
+#[tactic(auto, unfolding(crate::specs::Bank::batch_of))]
 pub fn batch_of(r: Record) -> Batch
     ensures { result ≡ batch_of r }
 {
     Batch {
         number: r.number,
         recipe: r.recipe,
-        factor: r.value_at(recipe_place(r.recipe as u16, ParameterKind::Factor)),
+        factor: r.value_at(recipe_place(u16::from(r.recipe), ParameterKind::Factor)),
         raw: r.raw,
         preset: r.preset,
     }
@@ -141,9 +117,8 @@ pub fn batch_of(r: Record) -> Batch
 pub fn empty() -> Bank
     ensures { result ≡ empty_bank }
 {
-    let batches = [no_batch(); MOST];
     Bank {
         count: 0,
-        batches: batches,
+        batches: [NO_BATCH; MOST],
     }
 }

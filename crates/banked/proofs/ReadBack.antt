@@ -12,7 +12,7 @@ use Rattle.base.proofs.Tests.{between_yes}
 use Rattle.state.specs.Field.{address, phase, raw, get}
 use Rattle.state.proofs.Validity.{valid_tell}
 use Rattle.bank.specs.declared.Bank.{Bank}
-use Rattle.bank.specs.declared.Newest.TheVariants as newest
+use Rattle.std.specs.Prelude.{Some, None}
 use Rattle.bank.specs.Bank.{most, batch_of, keep_of, is_kept, batch_at, newest_of}
 use Rattle.bank.proofs.Theorems.{Valid, stored_newest, stored-first, stored_older, stored_kept, stored_gone}
 use Rattle.bank.proofs.Theorems as bank
@@ -65,7 +65,7 @@ shown_so : (t : List ℕ) (b : Banked) → asks_batch t ≡ true → reply_text 
 unfolding kept_text answer_for newest_of
 shown_so t b h = sym (batch_text t b h) ∙ go (is_kept (asked t) b.bank)
   where
-    go : (c : Bool) → digits 2 (get address b.state) ++ kept_words (answer_by (asked t) (pick c (newest.Batch (batch_at (asked t) b.bank)) newest.Nothing))
+    go : (c : Bool) → digits 2 (get address b.state) ++ kept_words (answer_by (asked t) (pick c (Some (batch_at (asked t) b.bank)) None))
         ≡ digits 2 (get address b.state) ++ pick c (batch_shown (batch_at (asked t) b.bank).raw (asked t)) (refusal_text 3)
     go true = refl
     go false = refl

@@ -27,6 +27,10 @@ beside c k = record { silence = c.silence; reported = c.reported; after = with c
 unfoldable pub valid : Banked → Bool
 valid b = state.valid b.state && bank.valid b.bank
 
+-- that of the unit
+abbrev pub address_of : Banked → ℕ
+address_of b = get address b.state
+
 -- ---- a text t that is for this unit
 
 -- the text asks for a kept batch, and for which

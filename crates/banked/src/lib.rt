@@ -2,16 +2,15 @@
 #![tactic(auto)]
 
 ghost use Rattle.std.specs.Prelude.{◌≡◌};
-ghost use Rattle.controller.specs.Call.{outcome_as};
-ghost use Rattle.banked.specs.Banked.{with, valid, reply_of, banked_of};
-ghost use Rattle.banked.specs.Steps.{answer_for, stored_between, bank_after};
+ghost use Rattle.banked.specs.Banked.{valid as banked_valid, address_of, reply_text as banked_reply_text, held_after as banked_after, reply_of, banked_of};
+ghost use Rattle.banked.specs.Steps.{answer_for, stored_between, changed_as, banked_laws};
 
-use bank::{Bank, Newest, batch_of};
-use command::BatchAsked;
-use controller::{Answer, Heard};
+use bank::{Bank, batch_of};
+use command::{Served, Writing};
+use controller::{Answer, Held};
 use frame::{Kind, ROOM, Silence};
 use reply::Kept;
-use state::{DONE, IDLE, Record, STOPPED};
+use state::{Phase, Record};
 
 // The record, and the bank beside it.
 #[derive(Clone, Copy)]
@@ -20,109 +19,89 @@ pub struct Banked {
     pub bank: Bank,
 }
 
-// The answer, and what is held afterwards.
-#[derive(Clone, Copy)]
-pub struct Called {
-    pub answer: Answer,
-    pub after: Banked,
-}
-
 impl Banked {
     // Both are valid.
+    #[tactic(auto, unfolding(crate::specs::Banked::valid))]
     pub fn valid(self) -> bool
-        ensures { result ≡ valid self }
+        ensures { result ≡ banked_valid self }
     {
-        let state = self.state;
-        let bank = self.bank;
-        if !state.valid() {
-            return false;
-        }
-        bank.valid()
+        self.state.valid() && self.bank.valid()
     }
 }
 
 // What is answered to the request for a kept batch.
-fn answer_for(bank: Bank, n: u32) -> Kept
+#[tactic(auto, unfolding(crate::specs::Steps::answer_for))]
+fn answer_for(bank: Bank, n: u32) -> Option<Kept>
     ensures { result ≡ answer_for n bank }
 {
-    match bank.newest(n) {
-        Newest::Nothing => Kept::Nothing,
-        Newest::Batch(batch) => Kept::Volume(batch.raw, n),
-    }
+    let batch = bank.newest(n)?;
+    Some(Kept {
+        raw: batch.raw,
+        number: n,
+    })
 }
 
 // Whether a request that left the record so stored a batch. Of all requests ET alone leads from Stopped or Done to Idle.
+#[tactic(auto, unfolding(crate::specs::Steps::stored_between))]
 pub fn stores(before: Record, after: Record) -> bool
     ensures { result ≡ stored_between before after }
 {
-    let old = before.phase;
-    let new = after.phase;
-    let ended = base::is_among(state::phase_number(old), &[STOPPED, DONE]);
-    ended & (state::phase_number(new) == IDLE)
+    let ended = matches!(before.phase, Phase::Stopped | Phase::Done);
+    ended && after.phase == Phase::Idle
 }
 
-// The bank after a request that left the record so.
-fn bank_after(bank: Bank, before: Record, after: Record) -> Bank
-    ensures { result ≡ bank_after bank before after }
-{
-    if stores(before, after) {
-        return bank.keep(batch_of(before));
+impl Held for Banked {
+    ghost valid = { banked_valid };
+
+    ghost address = { address_of };
+
+    ghost reply_text = { banked_reply_text };
+
+    ghost held_after = { banked_after };
+
+    ghost changed = { changed_as };
+
+    ghost replied = { reply_of };
+
+    ghost called = { banked_of };
+
+    ghost laws = { banked_laws };
+
+    fn is_valid(&self) -> bool {
+        self.valid()
     }
-    bank
-}
 
-// Replies to a text as to one that is for this unit; or S2. The text is read once: for a kept batch here, for all else by the controller.
-pub fn reply_to(kind: Kind, before: Banked, text: &[u8], out: &mut [u8]) -> Called
-    ensures { outcome_as result.answer result.after out.new ≡ reply_of kind before text.now out.old }
-{
-    if out.len() < ROOM {
-        return Called {
-            answer: Answer::Silent(Silence::ShortReplyBuffer),
-            after: before,
+    fn address(&self) -> u8 {
+        self.state.address
+    }
+
+    // The text is read once: for a kept batch here, for all else by the record.
+    #[tactic(auto, using(crate::proofs::Steps::reply_short))]
+    fn reply_to(&self, kind: Kind, text: &[u8], out: &mut [u8]) -> Served<Answer> {
+        if out.len() < ROOM {
+            return Served {
+                answer: Err(Silence::ShortReplyBuffer),
+                effect: None,
+            };
+        }
+        let Some(number) = command::batch_asked(text) else {
+            return self.state.reply_to(kind, text, out);
         };
-    }
-    let state = before.state;
-    let bank = before.bank;
-    match command::batch_asked(text) {
-        BatchAsked::Number(number) => {
-            let answer = answer_for(bank, number);
-            let n = reply::write_kept(state.address, answer, &mut out[1..]);
-            let length = frame::enclose(kind, n, out).length();
-            Called {
-                answer: Answer::Reply(length),
-                after: before,
-            }
-        }
-        BatchAsked::Nothing => {
-            let replied = controller::reply_to(kind, state, text, out);
-            let answer = replied.answer;
-            let effect = replied.effect;
-            let after = command::carry_out(state, effect);
-            let kept = bank_after(bank, state, after);
-            Called {
-                answer: answer,
-                after: Banked {
-                    state: after,
-                    bank: kept,
-                },
-            }
+        let kept = answer_for(self.bank, number);
+        let n = reply::write_kept(self.state.address, kept, &mut out[1..]);
+        let length = frame::enclose(kind, n, out).unwrap_or(0);
+        Served {
+            answer: Ok(length),
+            effect: None,
         }
     }
-}
 
-// One frame that fills the lent request, and one reply buffer. A silence leaves record, bank and buffer as they were.
-pub fn call(kind: Kind, before: Banked, request: &[u8], out: &mut [u8]) -> Called
-    ensures { outcome_as result.answer result.after out.new ≡ banked_of kind before request.now out.old }
-{
-    let state = before.state;
-    match controller::hear(kind, before.valid(), state.address, request, out.len()) {
-        Heard::Silent(why) => Called {
-            answer: Answer::Silent(why),
-            after: before,
-        },
-        Heard::Text(n) => {
-            let end = n + 1;
-            reply_to(kind, before, &request[1..end], out)
+    #[tactic(auto, unfolding(crate::specs::Steps::bank_after))]
+    fn carry_out(&mut self, writing: Writing) {
+        let before = self.state;
+        self.state.carry_out(writing);
+        if stores(before, self.state) {
+            self.bank = self.bank.keep(batch_of(before));
         }
     }
 }

@@ -1,13 +1,12 @@
--- Laws of lists: the rest from a place on, a list laid over another, and the loop that copies one. Assumes nothing.
-use Prim.Native.Nat.{ℕ, zero, suc, ◌+◌, ◌-◌, ◌≤◌, ◌<◌}
+-- Laws of lists: the rest from a place on, and a list laid over another. Assumes nothing.
+use Prim.Native.Nat.{ℕ, suc, ◌+◌, ◌-◌, ◌≤◌, ◌<◌}
 use mathlib.Core.Path.{◌≡◌, refl, sym, ap, ◌∙◌}
 use mathlib.Core.List.{List, [], ◌∷◌, ◌++◌, append_assoc, append-nil}
 use mathlib.Core.Logic.{⊎_elim}
-use native.Mathlib.Nat.{le_of_suc-le-suc, not-suc-le-zero}
 use native.Mathlib.Numerals.{add-one}
 use native.Mathlib.Omega.{arith}
 use lib.ListN.{length, take, drop, get_or, set, length-append, length-drop, length-take, drop_of_length-le, take-append-drop}
-use lib.Seq.{drop-cons, drop_at, drop-drop, length-take-le, paste-zero, set-append_seam, set_split, take_all, take_at, take-length}
+use lib.Seq.{drop-cons, drop_at, drop-drop, length-take-le, paste-zero, set-append_seam, set_split, take_all, take_at}
 use borrow.Rule.Slice.PartMut.{put_mid}
 use Rattle.base.specs.Lists.{over, over_at}
 use Rattle.base.proofs.Tests.{below_or_not}
@@ -67,25 +66,6 @@ pub over_all : (f o : List ℕ) → length o ≤ length f → over f o ≡ f
 unfolding over
 over_all f o h = ap (λ (t : List ℕ). f ++ t) (drop_of_length-le o h) ∙ append-nil f
 
--- ---- a loop that copies one list over the start of another
-
--- a turn's store takes the copy of i elements to the copy of one more
-store : (s d : List ℕ) (i : ℕ) → i < length s → i < length d → set (take i s ++ drop i d) i (get_or s i 0) ≡ take (suc i) s ++ drop (suc i) d
-store [] d i h k = absurd (not-suc-le-zero h)
-store (x ∷ s) [] i h k = absurd (not-suc-le-zero k)
-store (x ∷ s) (y ∷ d) zero h k = refl
-store (x ∷ s) (y ∷ d) (suc i) h k = ap (λ (l : List ℕ). x ∷ l) (store s d i (le_of_suc-le-suc h) (le_of_suc-le-suc k))
-
-pub copy_again : (s d₀ d : List ℕ) (i : ℕ) → i < length s → i < length d₀ → d ≡ take i s ++ drop i d₀
-    → set d i (get_or s i 0) ≡ take (i + 1) s ++ drop (i + 1) d₀
-copy_again s d₀ d i h k e = ap (λ (l : List ℕ). set l i (get_or s i 0)) e ∙ store s d₀ i h k ∙ ap (λ (n : ℕ). take n s ++ drop n d₀) (sym (add-one i))
-
-pub copy_done : (s d₀ d : List ℕ) (i : ℕ) → i ≤ length s → length s ≤ i → d ≡ take i s ++ drop i d₀ → d ≡ over s d₀
-unfolding over
-copy_done s d₀ d i h k e =
-    let n : i ≡ length s = omega arith in
-    e ∙ ap (λ (m : ℕ). take m s ++ drop m d₀) n ∙ ap (λ (l : List ℕ). l ++ drop (length s) d₀) (take-length s)
-
 -- ---- laid over a list from a place on
 pub over_at-none : (at : ℕ) (s : List ℕ) → over_at at [] s ≡ s
 unfolding over_at
@@ -133,17 +113,6 @@ over_at_behind at xs ys s w t d =
 
 pub over_at-append : (at : ℕ) (xs ys s : List ℕ) → over_at at (xs ++ ys) s ≡ over_at (at + length xs) ys (over_at at xs s)
 over_at-append at xs ys s = let f = over_at_split at xs s in over_at_behind at xs ys s (over_at at xs s) f.0 f.1
-
--- one byte
-over_at_one : (n b : ℕ) (s : List ℕ) → n < length s → set s n b ≡ over_at n (b ∷ []) s
-unfolding over_at
-over_at_one n b s h = set_split s n b h ∙ ap (λ (k : ℕ). take n s ++ (b ∷ drop k s)) (sym (add-one n))
-
--- one byte more
-pub over_at-put : (at n b : ℕ) (xs s : List ℕ) → n ≡ at + length xs → n < length s → set (over_at at xs s) n b ≡ over_at at (xs ++ (b ∷ [])) s
-over_at-put at n b xs s e h =
-    over_at_one n b (over_at at xs s) (omega (arith, over_at-length at xs s (omega arith))) ∙ ap (λ (k : ℕ). over_at k (b ∷ []) (over_at at xs s)) e
-    ∙ sym (over_at-append at xs (b ∷ []) s)
 
 -- what was written into the lent part from a place on
 pub over_at_part : (at k : ℕ) (ys o : List ℕ) → length ys ≡ k → put_mid at k o ys ≡ over_at at ys o

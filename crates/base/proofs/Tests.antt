@@ -4,13 +4,13 @@ use mathlib.Core.Bool.{Bool, true, false, not, ◌&&◌, ◌||◌, false≢true}
 use mathlib.Core.Path.{◌≡◌, refl, sym, ap, ◌∙◌}
 use native.Mathlib.Nat.{eq-or-lt_of_le, le_of_suc-le-suc, not-suc-le-zero}
 use native.Mathlib.Omega.{arith}
+use native.Mathlib.Numerals.{add-one}
 use mathlib.Core.Logic.{◌⊎◌, inl, inr, ⊎_elim}
 use mathlib.Core.List.{List, [], ◌∷◌}
-use native.Mathlib.Numerals.{add-one}
 use lib.Dec.{eqb, leb, ltb}
 use lib.ListN.{length, drop, get_or, drop_of_length-le}
 use lib.Seq.{drop-cons}
-use borrow.Author.Tests.{le-leb, lt-leb, leb-true, ltb-true, ltb-false, eq-eqb, ne_eqb, not-true}
+use borrow.Author.Tests.{eqb-false, eqb-true, le-leb, leb-true, ltb-true, ltb-false, eq-eqb, ne_eqb, not-true}
 use Rattle.base.specs.Test.{between, all_between, all_distinct, member}
 
 -- facts of a whole list, one behind the other
@@ -95,15 +95,24 @@ holds_below p (suc n) h i l =
     ⊎_elim (λ (q : i ≡ n). ap p q ∙ and_left (p n) (all_below p n) h) (λ (q : i < n). holds_below p n (and_right (p n) (all_below p n) h) i q)
     (eq-or-lt_of_le (omega arith))
 
--- ---- one of several: the rest of the list from place i on
-pub member-end : (n : ℕ) (s : List ℕ) (i : ℕ) → length s ≤ i → member n (drop i s) ≡ false
-member-end n s i h = ap (member n) (drop_of_length-le s h)
+pub eqb-turned : (m n : ℕ) → eqb m n ≡ eqb n m
+eqb-turned m n = by_test (eqb n m) (λ e. eq-eqb m n (sym (eqb-true n m e)) ∙ sym e) (λ e. ne_eqb m n (λ q. eqb-false n m e (sym q)) ∙ sym e)
 
-pub member_found : (n : ℕ) (s : List ℕ) (i : ℕ) → i < length s → n ≡ get_or s i 0 → member n (drop i s) ≡ true
-member_found n s i h e = ap (member n) (drop-cons s i 0 h) ∙ simp (eq-eqb n (get_or s i 0) e)
+-- ---- each of several: the rest of the list from place i on
+module _ (low high : ℕ) (s : List ℕ) (i : ℕ) (r : Bool) where
+  all_turn : i < length s → all_between low high (drop i s) ≡ (between low high (get_or s i 0) && all_between low high (drop (i + 1) s))
+  unfolding all_between
+  all_turn h = ap (all_between low high) (drop-cons s i 0 h) ∙ rw add-one refl
 
-pub member_turn : (n : ℕ) (s : List ℕ) (i : ℕ) → i < length s → (n ≡ get_or s i 0 → ⊥) → member n (drop i s) ≡ member n (drop (i + 1) s)
-member_turn n s i h e = ap (member n) (drop-cons s i 0 h) ∙ simp (ne_eqb n (get_or s i 0) e, add-one)
+  pub all_not : i < length s → false ≡ between low high (get_or s i 0) → all_between low high (drop i s) ≡ r → false ≡ r
+  all_not h n e = sym (all_turn h ∙ simp (sym n)) ∙ e
+
+  pub all_again : i < length s → true ≡ between low high (get_or s i 0) → all_between low high (drop i s) ≡ r → all_between low high (drop (i + 1) s) ≡ r
+  all_again h y e = sym (all_turn h ∙ simp (sym y)) ∙ e
+
+  pub all_done : length s ≤ i → all_between low high (drop i s) ≡ r → true ≡ r
+  unfolding all_between
+  all_done h e = sym (ap (all_between low high) (drop_of_length-le s h)) ∙ e
 
 -- ---- a number at a place is one of the list, and in a list in which none stands twice the number tells the place; d is past the end
 pub member_at : (d x : ℕ) (xs : List ℕ) (i : ℕ) → i < length xs → get_or xs i d ≡ x → member x xs ≡ true
@@ -127,22 +136,3 @@ distinct_place d (x ∷ xs) u zero (suc j) h l e = absurd (not_again d x xs u j 
 distinct_place d (x ∷ xs) u (suc i) zero h l e = absurd (not_again d x xs u i (le_of_suc-le-suc h) e)
 distinct_place d (x ∷ xs) u (suc i) (suc j) h l e =
     ap suc (distinct_place d xs (and_right (not (member x xs)) (all_distinct xs) u) i j (le_of_suc-le-suc h) (le_of_suc-le-suc l) e)
-
--- ---- each of several: the rest of the list from place i on
-module _ (low high : ℕ) (s : List ℕ) (i : ℕ) (r : Bool) where
-  all_turn : i < length s → all_between low high (drop i s) ≡ (between low high (get_or s i 0) && all_between low high (drop (i + 1) s))
-  unfolding all_between
-  all_turn h = ap (all_between low high) (drop-cons s i 0 h) ∙ rw add-one refl
-
-  pub all_low : i < length s → get_or s i 0 < low → all_between low high (drop i s) ≡ r → false ≡ r
-  all_low h l e = sym (all_turn h ∙ simp (lt-leb _ _ l)) ∙ e
-
-  pub all_high : i < length s → low ≤ get_or s i 0 → high < get_or s i 0 → all_between low high (drop i s) ≡ r → false ≡ r
-  all_high h l u e = sym (all_turn h ∙ simp (le-leb _ _ l, lt-leb _ _ u)) ∙ e
-
-  pub all_again : i < length s → low ≤ get_or s i 0 → get_or s i 0 ≤ high → all_between low high (drop i s) ≡ r → all_between low high (drop (i + 1) s) ≡ r
-  all_again h l u e = sym (all_turn h ∙ simp (le-leb _ _ l, le-leb _ _ u)) ∙ e
-
-  pub all_done : length s ≤ i → all_between low high (drop i s) ≡ r → true ≡ r
-  unfolding all_between
-  all_done h e = sym (ap (all_between low high) (drop_of_length-le s h)) ∙ e

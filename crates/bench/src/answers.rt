@@ -1,120 +1,116 @@
-// Answers as numbers: a length, or a refusal with 1000 and the number of an S, 2000 and that of an H, 3000 and that of a K.
-use crate::print::{put_character, put_field, put_hex, put_number};
-use crate::words::end_of;
-use controller::Answer;
-use frame::{Built, Located, Silence, TextRead};
-use std::io;
+// What a call answers: a length, or the letter and the number of a silence or refusal.
+use crate::print::put_hex;
+use frame::{BuildRefusal, ReadRefusal, Silence};
 use std::io::Write;
-use stored::{Refusal, STORED_LENGTH, Written};
+use std::{fmt, io};
+use stored::WriteRefusal;
 
-// The least number that stands for a refusal.
-const REFUSED: usize = 1000;
+// Sn is a silence, Hn a refusal of the host side, Kn one of stored bytes.
+#[derive(Clone, Copy)]
+pub(crate) struct Refused {
+    letter: char,
+    number: u8,
+}
 
-pub(crate) fn silence(why: Silence) -> usize {
-    match why {
-        Silence::InvalidRecord => 1001,
-        Silence::ShortReplyBuffer => 1002,
-        Silence::FrameLength => 1003,
-        Silence::Mark => 1004,
-        Silence::Check => 1005,
-        Silence::TextByte => 1006,
-        Silence::AddressOrCode => 1007,
-        Silence::OtherAddress => 1008,
+impl fmt::Display for Refused {
+    fn fmt<W: fmt::Write>(&self, f: &mut fmt::Formatter<W>) -> fmt::Result {
+        write!(f, "{}{}", self.letter, self.number)
     }
 }
 
-pub(crate) fn called(answer: Answer) -> usize {
-    match answer {
-        Answer::Silent(why) => silence(why),
-        Answer::Reply(n) => n,
+impl From<Silence> for Refused {
+    fn from(why: Silence) -> Refused {
+        Refused {
+            letter: 'S',
+            number: u8::from(why),
+        }
     }
 }
 
-pub(crate) fn built(answer: Built) -> usize {
-    match answer {
-        Built::ShortBuffer => 2001,
-        Built::TextLength => 2002,
-        Built::TextByte => 2003,
-        Built::Frame(n) => n,
+impl From<BuildRefusal> for Refused {
+    fn from(why: BuildRefusal) -> Refused {
+        let number = match why {
+            BuildRefusal::ShortBuffer => 1,
+            BuildRefusal::TextLength => 2,
+            BuildRefusal::TextByte => 3,
+        };
+        Refused {
+            letter: 'H',
+            number,
+        }
     }
 }
 
-pub(crate) fn text_read(answer: TextRead) -> usize {
-    match answer {
-        TextRead::ShortBuffer => 2001,
-        TextRead::Silent(why) => silence(why),
-        TextRead::Text(n) => n,
+impl From<ReadRefusal> for Refused {
+    fn from(why: ReadRefusal) -> Refused {
+        match why {
+            ReadRefusal::ShortBuffer => Refused::from(BuildRefusal::ShortBuffer),
+            ReadRefusal::Silent(silence) => Refused::from(silence),
+        }
     }
 }
 
-pub(crate) fn located(answer: Located) -> usize {
-    match answer {
-        Located::Silent(why) => silence(why),
-        Located::Text(n) => n,
+impl From<stored::Refusal> for Refused {
+    fn from(why: stored::Refusal) -> Refused {
+        Refused {
+            letter: 'K',
+            number: u8::from(why),
+        }
     }
 }
 
-fn refusal(why: Refusal) -> usize {
-    match why {
-        Refusal::Length => 3001,
-        Refusal::Version => 3002,
-        Refusal::LengthField => 3003,
-        Refusal::Field => 3004,
-    }
-}
-
-// How many bytes were read.
-pub(crate) fn form_read(answer: stored::Answer, length: usize) -> usize {
-    match answer {
-        stored::Answer::Whole => length,
-        stored::Answer::Refused(why) => refusal(why),
-    }
-}
-
-pub(crate) fn written(answer: Written) -> usize {
-    match answer {
-        Written::InvalidRecord => 3005,
-        Written::ShortBuffer => 3006,
-        Written::Whole => STORED_LENGTH,
+impl From<WriteRefusal> for Refused {
+    fn from(why: WriteRefusal) -> Refused {
+        let number = match why {
+            WriteRefusal::InvalidRecord => 5,
+            WriteRefusal::ShortBuffer => 6,
+        };
+        Refused {
+            letter: 'K',
+            number,
+        }
     }
 }
 
 // ---- writing them
 
-fn letter(thousand: usize) -> u8 {
-    match thousand {
-        1 => b'S',
-        2 => b'H',
-        _ => b'K',
+// A space, and the length or what refuses it.
+pub(crate) fn put_answer<W: Write, E: Into<Refused>>(
+    writer: &mut W,
+    answer: Result<usize, E>,
+) -> io::Result<()> {
+    match answer {
+        Ok(n) => write!(writer, " {n}"),
+        Err(why) => {
+            let refused: Refused = why.into();
+            write!(writer, " {refused}")
+        }
     }
-}
-
-// A space, and the length or the refusal's letter and number.
-pub(crate) fn put_answer<W: Write>(writer: &mut W, answer: usize) -> io::Result<()> {
-    put_character(writer, b' ')?;
-    if REFUSED <= answer {
-        put_character(writer, letter(answer / 1000))?;
-    }
-    put_number(writer, (answer % 1000) as u64)
 }
 
 // What each byte of a lent buffer is before.
 pub(crate) const FILL: u8 = 0xee;
 
-// How many bytes from a place on are as before.
-fn put_kept<W: Write>(writer: &mut W, s: &[u8], from: usize) -> io::Result<()> {
-    if from <= s.len() {
-        return put_field(writer, b'+', (end_of(s, from, FILL, false) - from) as u64);
-    }
-    Ok(())
+// How many bytes are as before.
+fn put_kept<W: Write>(writer: &mut W, s: &[u8]) -> io::Result<()> {
+    let kept = s.iter().position(|b| *b != FILL).unwrap_or(s.len());
+    write!(writer, " +{kept}")
 }
 
 // The bytes at the start of a lent buffer that are the answer, or its refusal; then how many bytes behind are as before.
-pub(crate) fn put_lent<W: Write>(writer: &mut W, answer: usize, out: &[u8]) -> io::Result<()> {
-    if out.len() < answer {
-        put_answer(writer, answer)?;
-        return put_kept(writer, out, 0);
+pub(crate) fn put_lent<W: Write, E: Into<Refused>>(
+    writer: &mut W,
+    answer: Result<usize, E>,
+    out: &[u8],
+) -> io::Result<()> {
+    match answer {
+        Ok(n) if n <= out.len() => {
+            put_hex(writer, &out[..n])?;
+            put_kept(writer, &out[n..])
+        }
+        _ => {
+            put_answer(writer, answer)?;
+            put_kept(writer, out)
+        }
     }
-    put_hex(writer, &out[0..answer])?;
-    put_kept(writer, out, answer)
 }

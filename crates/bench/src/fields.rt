@@ -1,5 +1,4 @@
 // The bench record, what a line changes in a record, and its fields as text.
-use crate::print::{put_character, put_field, put_number};
 use crate::words::{at, last_number};
 use state::{Event, PARAMETERS, Phase, Record};
 use std::io;
@@ -57,24 +56,12 @@ pub(crate) fn small(n: u32) -> u8 {
 pub(crate) fn set(mut r: Record, line: &[u8]) -> Record {
     let n = last_number(line);
     match at(line, 5) {
-        b'd' => {
-            r.address = small(n);
-        }
-        b'c' => {
-            r.access = small(n);
-        }
-        b'e' => {
-            r.recipe = small(n);
-        }
-        b'a' => {
-            r.raw = n;
-        }
-        b'l' => {
-            r.alarms = n;
-        }
-        _ => {
-            r.values[FACTOR_OF_THREE] = n;
-        }
+        b'd' => r.address = small(n),
+        b'c' => r.access = small(n),
+        b'e' => r.recipe = small(n),
+        b'a' => r.raw = n,
+        b'l' => r.alarms = n,
+        _ => r.values[FACTOR_OF_THREE] = n,
     }
     r
 }
@@ -109,34 +96,18 @@ pub(crate) fn event_in(line: &[u8]) -> Event {
 
 // ---- fields as text
 
-fn put_flags<W: Write>(writer: &mut W, r: Record) -> io::Result<()> {
-    put_number(writer, r.keypad as u64)?;
-    put_number(writer, r.flow as u64)?;
-    put_number(writer, r.changed as u64)?;
-    put_number(writer, r.reset as u64)?;
-    put_number(writer, r.powerfail as u64)
-}
-
-fn put_fields<W: Write>(writer: &mut W, r: Record) -> io::Result<()> {
-    put_field(writer, b'@', r.address as u64)?;
-    put_field(writer, b'A', r.access as u64)?;
-    put_field(writer, b'R', r.recipe as u64)
-}
-
-fn put_batch<W: Write>(writer: &mut W, r: Record) -> io::Result<()> {
-    put_field(writer, b'P', r.preset as u64)?;
-    put_field(writer, b'W', r.raw as u64)?;
-    put_field(writer, b'N', r.number as u64)?;
-    put_field(writer, b'L', r.alarms as u64)
-}
-
 // Writes the record's phase and flags, then its fields but the parameters, and gives it back.
 pub(crate) fn shown<W: Write>(writer: &mut W, r: Record) -> io::Result<Record> {
-    put_character(writer, b' ')?;
-    let phase = r.phase;
-    put_number(writer, state::phase_number(phase) as u64)?;
-    put_flags(writer, r)?;
-    put_fields(writer, r)?;
-    put_batch(writer, r)?;
+    let flags = [r.keypad, r.flow, r.changed, r.reset, r.powerfail];
+    write!(writer, " {}", u8::from(r.phase))?;
+    for flag in flags {
+        write!(writer, "{}", u8::from(flag))?;
+    }
+    write!(writer, " @{} A{} R{}", r.address, r.access, r.recipe)?;
+    write!(
+        writer,
+        " P{} W{} N{} L{}",
+        r.preset, r.raw, r.number, r.alarms
+    )?;
     Ok(r)
 }

@@ -12,9 +12,9 @@ ghost use Rattle.std.specs.Prelude.{◌≤◌};
 
 use crate::answers::FILL;
 use crate::fields::{bench, event_in, set, shown};
-use crate::print::{put, put_character};
+use crate::print::put_character;
 use crate::uses::{build, call, change, enclose, load, read, store};
-use crate::words::{MOST, at, count_in, end_of, fill, last_number, number_before};
+use crate::words::{MOST, at, count_in, fill, last_number, number_before};
 use frame::Kind;
 use input::read_full;
 use state::Record;
@@ -31,8 +31,7 @@ fn start_of(mark: u8) -> usize
     ensures { 2 ≤ result }
 {
     match mark {
-        b'M' => 2,
-        b'T' => 2,
+        b'M' | b'T' => 2,
         b'l' => 5,
         b'r' => 7,
         b'b' => 8,
@@ -51,19 +50,17 @@ fn kind_of(line: &[u8]) -> Kind {
 
 // Lays the frame of a text in quotes into a buffer, and gives its length.
 fn lay_frame(kind: Kind, words: &[u8], data: &mut [u8]) -> usize {
-    if data.len() == 0 {
+    if data.is_empty() {
         return 0;
     }
     fill(words, &mut data[1..]);
-    frame::enclose(kind, count_in(words), data).length()
+    frame::enclose(kind, count_in(words), data).unwrap_or(0)
 }
 
 // Lays the bytes that a line's words give into a buffer, of a call's text those of its frame; gives their number.
 fn lay(line: &[u8], words: &[u8], data: &mut [u8]) -> usize {
-    if start_of(at(line, 0)) == 2 {
-        if at(words, 0) == b'"' {
-            return lay_frame(kind_of(line), words, data);
-        }
+    if start_of(at(line, 0)) == 2 && at(words, 0) == b'"' {
+        return lay_frame(kind_of(line), words, data);
     }
     fill(words, data);
     count_in(words)
@@ -127,12 +124,8 @@ fn after<W: Write>(
 // Between a line and what it gets, if its kind gets something.
 fn put_arrow<W: Write>(writer: &mut W, mark: u8) -> io::Result<()> {
     match mark {
-        0 => Ok(()),
-        b'#' => Ok(()),
-        b'=' => Ok(()),
-        b's' => Ok(()),
-        b'i' => Ok(()),
-        _ => put(writer, b" ->"),
+        0 | b'#' | b'=' | b's' | b'i' => Ok(()),
+        _ => writer.write_all(b" ->"),
     }
 }
 
@@ -172,7 +165,7 @@ fn with_room<W: Write>(
 // The record after a line that is written back with what it gets.
 fn run_line<W: Write>(writer: &mut W, r: Record, room: usize, line: &[u8]) -> io::Result<Record> {
     let mut out = [FILL; MOST];
-    put(writer, line)?;
+    writer.write_all(line)?;
     put_arrow(writer, at(line, 0))?;
     let next = with_room(writer, r, room, line, &mut out)?;
     put_character(writer, b'\n')?;
@@ -191,12 +184,10 @@ fn room_after(room: usize, line: &[u8]) -> usize {
 fn run<W: Write>(writer: &mut W, s: &[u8]) -> io::Result<()> {
     let mut r = stored::low_record();
     let mut room = 64;
-    let mut from = 0;
-    while from < s.len() {
-        let end = end_of(s, from, b'\n', true);
-        r = run_line(writer, r, room, &s[from..end])?;
-        room = room_after(room, &s[from..end]);
-        from = end + 1;
+    for ended in s.split_inclusive(|b| *b == b'\n') {
+        let line = ended.strip_suffix(b"\n").unwrap_or(ended);
+        r = run_line(writer, r, room, line)?;
+        room = room_after(room, line);
     }
     Ok(())
 }

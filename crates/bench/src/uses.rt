@@ -1,11 +1,9 @@
 // The calls of the libraries, each with what it gets.
-use crate::answers::{
-    FILL, built, called, form_read, located, put_answer, put_lent, silence, text_read, written,
-};
+use crate::answers::{FILL, put_answer, put_lent};
 use crate::fields::{shown, small};
-use crate::print::{put, put_character, put_hex};
+use crate::print::{put_character, put_hex};
 use crate::words::{last_number, number_before};
-use controller::Called;
+use controller::Answer;
 use frame::{Addressed, Kind};
 use state::Record;
 use std::io;
@@ -16,28 +14,26 @@ use stored::STORED_LENGTH;
 
 // The text of a frame, in quotes.
 fn put_text<W: Write>(writer: &mut W, kind: Kind, frame: &[u8]) -> io::Result<()> {
-    let n = located(frame::locate(kind, frame));
-    if frame.len() <= n {
-        return Ok(());
+    match frame::locate(kind, frame) {
+        Ok(n) if n < frame.len() => {
+            put_character(writer, b'"')?;
+            writer.write_all(&frame[1..n + 1])?;
+            put_character(writer, b'"')
+        }
+        _ => Ok(()),
     }
-    let end = n + 1;
-    put_character(writer, b'"')?;
-    put(writer, &frame[1..end])?;
-    put_character(writer, b'"')
 }
 
-fn put_reply<W: Write>(writer: &mut W, kind: Kind, answer: usize, out: &[u8]) -> io::Result<()> {
-    if answer <= out.len() {
-        put_character(writer, b' ')?;
-        put_text(writer, kind, &out[0..answer])?;
+// The reply's text and its bytes.
+fn put_reply<W: Write>(writer: &mut W, kind: Kind, answer: Answer, out: &[u8]) -> io::Result<()> {
+    match answer {
+        Ok(n) if n <= out.len() => {
+            put_character(writer, b' ')?;
+            put_text(writer, kind, &out[..n])?;
+        }
+        _ => {}
     }
     put_lent(writer, answer, out)
-}
-
-fn replied<W: Write>(writer: &mut W, kind: Kind, done: Called, out: &[u8]) -> io::Result<Record> {
-    let answer = done.answer;
-    put_reply(writer, kind, called(answer), out)?;
-    Ok(done.after)
 }
 
 // One call; gets the reply's text and its bytes.
@@ -49,7 +45,8 @@ pub(crate) fn call<W: Write>(
     out: &mut [u8],
 ) -> io::Result<Record> {
     let done = controller::call(kind, r, request, out);
-    replied(writer, kind, done, out)
+    put_reply(writer, kind, done.answer, out)?;
+    Ok(done.after)
 }
 
 // ---- the host side
@@ -60,7 +57,7 @@ pub(crate) fn build<W: Write>(
     text: &[u8],
     out: &mut [u8],
 ) -> io::Result<()> {
-    let answer = built(frame::build(kind, text, out));
+    let answer = frame::build(kind, text, out);
     put_lent(writer, answer, out)
 }
 
@@ -71,18 +68,8 @@ pub(crate) fn enclose<W: Write>(
     n: usize,
     buffer: &mut [u8],
 ) -> io::Result<()> {
-    put_answer(writer, built(frame::enclose(kind, n, buffer)))?;
+    put_answer(writer, frame::enclose(kind, n, buffer))?;
     put_hex(writer, buffer)
-}
-
-fn put_unit<W: Write>(writer: &mut W, answer: Addressed) -> io::Result<()> {
-    match answer {
-        Addressed::Silent(why) => put_answer(writer, silence(why)),
-        Addressed::Unit(address, n) => {
-            put_answer(writer, address as usize)?;
-            put_answer(writer, n)
-        }
-    }
 }
 
 // Gets the text, then where it lies, then whom it is for.
@@ -93,36 +80,36 @@ pub(crate) fn read<W: Write>(
     out: &mut [u8],
 ) -> io::Result<()> {
     let answer = frame::read(kind, frame, out);
-    put_lent(writer, text_read(answer), out)?;
-    put_answer(writer, located(frame::locate(kind, frame)))?;
-    put_unit(writer, frame::address(kind, frame))
+    put_lent(writer, answer, out)?;
+    put_answer(writer, frame::locate(kind, frame))?;
+    let addressed = frame::address(kind, frame);
+    if let Ok(Addressed { unit, .. }) = addressed {
+        write!(writer, " {unit}")?;
+    }
+    put_answer(writer, addressed.map(|whom| whom.length))
 }
 
 // ---- the stored form
 
 pub(crate) fn store<W: Write>(writer: &mut W, r: Record, out: &mut [u8]) -> io::Result<Record> {
-    let answer = written(stored::write(r, out));
+    let answer = stored::write(r, out).map(|_| STORED_LENGTH);
     put_lent(writer, answer, out)?;
     Ok(r)
 }
 
+// Gets how many bytes were read, and the record.
 pub(crate) fn load<W: Write>(writer: &mut W, form: &[u8]) -> io::Result<Record> {
     let reading = stored::read(form);
-    let answer = reading.answer;
-    put_answer(writer, form_read(answer, form.len()))?;
-    shown(writer, reading.record)
-}
-
-fn replace(s: &mut [u8], i: usize, byte: u8) {
-    if i < s.len() {
-        s[i] = byte;
-    }
+    put_answer(writer, reading.map(|_| form.len()))?;
+    shown(writer, reading.unwrap_or(stored::low_record()))
 }
 
 // The record that is read from another's form with the byte at one place changed, which a line gives.
 pub(crate) fn change<W: Write>(writer: &mut W, r: Record, line: &[u8]) -> io::Result<Record> {
     let mut form = [FILL; STORED_LENGTH];
-    stored::write(r, &mut form);
-    replace(&mut form, number_before(line, 10), small(last_number(line)));
+    let _ = stored::write(r, &mut form);
+    if let Some(byte) = form.get_mut(number_before(line, 10)) {
+        *byte = small(last_number(line));
+    }
     load(writer, &form)
 }

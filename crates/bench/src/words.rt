@@ -1,55 +1,29 @@
 // What stands in a line: numbers, and bytes as a text in quotes or in hexadecimal.
-ghost use Rattle.std.specs.Prelude.{◌≤◌, length};
+ghost use Rattle.std.specs.Prelude.{◌≤◌};
 
 // The byte at a place; 0 if there is none.
 pub(crate) fn at(s: &[u8], i: usize) -> u8 {
-    if s.len() <= i {
-        return 0;
-    }
-    s[i]
-}
-
-// The first place from a place on where a byte is (same), or where it is not; the length if there is none.
-pub(crate) fn end_of(s: &[u8], from: usize, byte: u8, same: bool) -> usize
-    requires { from ≤ length s.now }
-    ensures { (from ≤ result) × (result ≤ length s.now) }
-{
-    for i in from..s.len() {
-        if (s[i] == byte) == same {
-            return i;
-        }
-    }
-    s.len()
+    s.get(i).copied().unwrap_or(0)
 }
 
 // ---- numbers
 
 // A number with one digit more; 0 if that is no digit, or one too many.
 fn with_digit(n: u32, b: u8) -> u32 {
-    if 99999999 < n {
-        return 0;
-    }
     match b {
-        b'0'..=b'9' => 10 * n + (b - b'0') as u32,
+        b'0'..=b'9' if n <= 99999999 => 10 * n + u32::from(b - b'0'),
         _ => 0,
     }
 }
 
 // The number that a line ends in, of up to nine digits.
 pub(crate) fn last_number(line: &[u8]) -> u32 {
-    let mut n = 0;
-    for byte in line {
-        n = with_digit(n, *byte);
-    }
-    n
+    line.iter().fold(0, |n, b| with_digit(n, *b))
 }
 
 // The number that ends before a place.
 pub(crate) fn number_before(line: &[u8], end: usize) -> usize {
-    if line.len() < end {
-        return 0;
-    }
-    last_number(&line[0..end]) as usize
+    line.get(..end).map_or(0, |s| last_number(s) as usize)
 }
 
 // ---- bytes
@@ -81,16 +55,11 @@ fn byte_in(words: &[u8], i: usize) -> u8 {
 
 // How many bytes words give.
 pub(crate) fn count_in(words: &[u8]) -> usize {
-    if words.len() == 0 {
-        return 0;
+    match words {
+        [] | [b'"'] => 0,
+        [b'"', text @ .., _] => text.len(),
+        _ => words.len() / 3 + 1,
     }
-    if words[0] != b'"' {
-        return words.len() / 3 + 1;
-    }
-    if words.len() == 1 {
-        return 0;
-    }
-    words.len() - 2
 }
 
 // Fills a buffer with the bytes that words give.

@@ -1,18 +1,17 @@
 -- Document 02, L5: "One board, up to sixteen addresses."
 -- rs are the lent records, q is the lent request, o the lent reply buffer.
-use Rattle.std.specs.Prelude.{ℕ, Bool, true, ◌&&◌, List, [], ◌∷◌, map, eqb, leb, length}
+use Rattle.std.specs.Prelude.{ℕ, Bool, true, ◌&&◌, List, [], ◌∷◌, map, eqb, leb, length, Result, Ok, Err}
 use Rattle.base.specs.Test.{pick, unless, between, all_distinct}
 use Rattle.state.specs.declared.Record.{Record}
 use Rattle.state.specs.Field.{address, get}
 use Rattle.state.specs.Valid.{valid}
 use Rattle.frame.specs.declared.Kind.{Kind}
+use Rattle.frame.specs.declared.Silence.{Silence}
 use Rattle.frame.specs.Frame.{address_in, text_in}
 use Rattle.frame.specs.Numbers.{silence_in}
 use Rattle.frame.specs.Answer.{address_of}
 use Rattle.controller.specs.Call as one
 use Rattle.controller.specs.Call.{call_of}
-use Rattle.board.specs.declared.Answer.{Answer}
-use Rattle.board.specs.declared.Answer.TheVariants as answer
 use Rattle.board.specs.declared.Refusal.{Refusal}
 use Rattle.board.specs.declared.Refusal.TheVariants as refusal
 
@@ -69,13 +68,16 @@ refusal_number refusal.ListLength = 9
 refusal_number refusal.InvalidRecord = 10
 refusal_number refusal.AddressTwice = 11
 
+abbrev pub Answer : Type 0
+Answer = Result (Result ℕ Silence) Refusal
+
 abbrev pub answer_silence : Answer → ℕ
-answer_silence (answer.Refused w) = refusal_number w
-answer_silence (answer.Called a) = one.answer_silence a
+answer_silence (Err w) = refusal_number w
+answer_silence (Ok a) = one.answer_silence a
 
 abbrev pub answer_length : Answer → ℕ
-answer_length (answer.Refused w) = 0
-answer_length (answer.Called a) = one.answer_length a
+answer_length (Err w) = 0
+answer_length (Ok a) = one.answer_length a
 
 abbrev pub outcome_as : Answer → List Record → List ℕ → Outcome
 outcome_as a rs o = record { silence = answer_silence a; reported = answer_length a; records = rs; buffer = o }

@@ -1,94 +1,63 @@
 -- What a bank adds to the tables: RT R NNN gets NO03 or is accepted, where without a bank it gets NO01; every other request gets what it
--- gets without a bank. One law for each return of `batch_asked`. Assumes nothing.
-use Prim.Native.Nat.{ℕ, ◌+◌, ◌-◌, ◌*◌}
-use mathlib.Core.Bool.{Bool, true, false, not, and-true, and-false}
+-- gets without a bank. Assumes nothing.
+use Prim.Native.Nat.{ℕ, ◌-◌}
+use mathlib.Core.Bool.{Bool, true, false, not, ◌&&◌, and-true, and-false}
 use mathlib.Core.Path.{◌≡◌, refl, sym, ap, ◌∙◌}
 use mathlib.Core.List.{List, [], ◌++◌}
+use Rattle.std.specs.Prelude.{Option, Some, None}
 use native.Mathlib.Omega.{arith}
 use lib.Dec.{eqb}
-use lib.ListN.{length, take, drop, get_or, length-drop, take-append-drop}
-use lib.Seq.{take_all, drop-drop}
-use borrow.Author.Tests.{ne_eqb, eqb-true, not-true, not-false}
+use lib.ListN.{length, take, drop, length-drop, take-append-drop}
+use lib.Seq.{drop-drop}
+use borrow.Author.Tests.{eqb-true, eqb-false}
 use Rattle.base.specs.Test.{pick, between}
-use Rattle.base.proofs.Tests.{and_left, and_right, between_yes, between_no}
-use Rattle.text.specs.declared.Digits.{Digits}
-use Rattle.text.specs.declared.Digits.TheVariants as digits_read
-use Rattle.text.specs.Word.{value_of, number_for, equal}
-use Rattle.text.proofs.Words.{equal_true, number-told, number-nothing}
+use Rattle.base.proofs.Tests.{by_test, and_left, and_right, between_no}
+use Rattle.text.specs.Word.{all_digits, value_of, number_for, equal}
+use Rattle.text.proofs.Words.{equal_true}
 use Rattle.base.specs.Text.{text}
 use Rattle.state.specs.declared.Record.{Record}
-use Rattle.command.specs.declared.BatchAsked.TheVariants as asks_for
 use Rattle.command.specs.Commands.{RT, code_in, digits_between, formed, Arguments, row_of, commands, batch_asked, batch_number}
 use Rattle.command.specs.Refusals.{Row, refusals, refusals_beside}
 use Rattle.command.specs.Answer.{Verdict, NO, accepted, behind_code, first_of, verdict, verdict_beside}
 use Rattle.command.specs.Request.{batch_in}
+use Rattle.command.proofs.Parsing.{behind, behind_is}
 
--- ---- the returns of `batch_asked`
-module _ (t : List ℕ) where
-  rest-length : length (drop 3 (drop 4 t)) ≡ 3 → length t ≡ 10
-  rest-length e = let d : length (drop 3 (drop 4 t)) ≡ length (drop 4 t) - 3 = length-drop 3 (drop 4 t) in let f : length (drop 4 t) ≡ length t - 4 = length-drop 4 t in omega arith
+-- ---- the code of `batch_asked`
+nested : (a b c : Bool) (x : Option ℕ) → pick (a && (b && c)) x None ≡ pick (a && b) (pick c x None) None
+nested true true c x = refl
+nested true false c x = refl
+nested false b c x = refl
 
-  not-asked : batch_asked (code_in t) (drop 4 t) ≡ false → asks_for.Nothing ≡ batch_in t
-  unfolding batch_in
-  not-asked e = simp e
-
-  pub other_length : (length t ≡ 10 → ⊥) → asks_for.Nothing ≡ batch_in t
-  unfolding batch_asked digits_between
-  other_length h =
-      not-asked (simp (between_no 3 3 (length (drop 3 (drop 4 t))) (λ a b. h (rest-length (omega arith))), and-false))
-
-  module _ (h l : ℕ) (high : h ≡ get_or t 2 0) (low : l ≡ get_or t 3 0) where
-    code_so : code_in t ≡ h * 256 + l
-    unfolding code_in
-    code_so = omega (arith, high, low)
-
-    pub other_code : (h * 256 + l ≡ RT → ⊥) → asks_for.Nothing ≡ batch_in t
-    unfolding batch_asked
-    other_code f = not-asked (simp (ne_eqb (code_in t) RT (λ z. f (sym code_so ∙ z))))
-
-  module _ (h l : ℕ) (high : h ≡ get_or t 2 0) (low : l ≡ get_or t 3 0) (c : h * 256 + l ≡ RT) (n : length t ≡ 10) (b : Bool)
-      (e : b ≡ equal (take 3 (drop 4 t)) (text " R ")) where
-    pub other_word : not b ≡ true → asks_for.Nothing ≡ batch_in t
-    unfolding batch_asked
-    other_word i = not-asked (simp (sym e ∙ not-true b i, and-false))
-
-    module _ (i : not b ≡ false) (k : Digits) (d : k ≡ number_for (take (length t - 7) (drop 7 t))) where
-      behind : drop 3 (drop 4 t) ≡ drop 7 t
-      behind = drop-drop 3 4 t
-
-      read : k ≡ number_for (drop 7 t)
-      read = d ∙ ap number_for (take_all (length t - 7) (drop 7 t) (omega (arith, length-drop 7 t)))
-
-      short : length (drop 7 t) ≡ 3
-      short = length-drop 7 t ∙ (omega arith)
-
-      pub no_digits : k ≡ digits_read.Nothing → asks_for.Nothing ≡ batch_in t
-      unfolding batch_asked digits_between
-      no_digits z =
-          not-asked (simp (behind, number-nothing (drop 7 t) (omega (arith, short)) k read z, and-false))
-
-      pub batch_named : (m : ℕ) → k ≡ digits_read.Number m → asks_for.Number m ≡ batch_in t
-      unfolding batch_in batch_asked digits_between
-      batch_named m z =
-          let (all, value) = number-told (drop 7 t) m (sym read ∙ z) in
-          simp (code_so h l high low ∙ c, sym e ∙ not-false b i, behind, all, between_yes 3 3 (length (drop 7 t)) (omega (arith, short)) (omega (arith, short))) (ap asks_for.Number value)
-
-pub ruleset batch-asking = (other_length, other_code, other_word, no_digits, batch_named)
+pub batch_form : (t : List ℕ)
+    → batch_in t
+    ≡ pick {A = Option ℕ} (eqb (length t) 10 && (eqb (code_in t) RT && equal (take 3 (drop 4 t)) (text " R "))) (number_for (behind 7 t)) None
+unfolding batch_in batch_asked digits_between number_for
+batch_form t =
+    simp (behind_is, drop-drop 3 4 t)
+    (by_test (eqb (length t) 10)
+    (λ h.
+    let l : length (drop 7 t) ≡ 3 = length-drop 7 t ∙ ap (λ (n : ℕ). n - 7) (eqb-true (length t) 10 h) in
+    simp (h, l) (nested (eqb (code_in t) RT) (equal (take 3 (drop 4 t)) (text " R ")) (all_digits (drop 7 t)) (Some (value_of (drop 7 t)))))
+    (λ h.
+    let n : length t ≡ 10 → ⊥ = eqb-false (length t) 10 h in
+    let d : length (drop 7 t) ≡ length t - 7 = length-drop 7 t in
+    let l : between 3 3 (length (drop 7 t)) ≡ false = between_no 3 3 (length (drop 7 t)) (λ a b. n (omega arith)) in
+    simp (h, l, and-false)))
 
 -- ---- what is asked for: the number, if there is one
-pub batch_told : (t : List ℕ) (n : ℕ) → batch_in t ≡ asks_for.Number n → (batch_asked (code_in t) (behind_code t) ≡ true) × (n ≡ batch_number (behind_code t))
+pub batch_told : (t : List ℕ) (n : ℕ) → batch_in t ≡ Some n → (batch_asked (code_in t) (behind_code t) ≡ true) × (n ≡ batch_number (behind_code t))
 unfolding batch_in
 batch_told t n = go (batch_asked (code_in t) (behind_code t))
   where
-    go : (b : Bool) → pick b (asks_for.Number (batch_number (behind_code t))) asks_for.Nothing ≡ asks_for.Number n → (b ≡ true) × (n ≡ batch_number (behind_code t))
+    go : (b : Bool) → pick b (Some (batch_number (behind_code t))) None ≡ Some n → (b ≡ true) × (n ≡ batch_number (behind_code t))
     go true e = (refl, cc)
     go false e = let z : ◌≡◌ {A = ℕ} 0 1 = cc in absurd (omega arith)
 
-pub none_told : (t : List ℕ) → batch_in t ≡ asks_for.Nothing → batch_asked (code_in t) (behind_code t) ≡ false
+pub none_told : (t : List ℕ) → batch_in t ≡ None → batch_asked (code_in t) (behind_code t) ≡ false
 unfolding batch_in
 none_told t = go (batch_asked (code_in t) (behind_code t))
   where
-    go : (b : Bool) → pick b (asks_for.Number (batch_number (behind_code t))) asks_for.Nothing ≡ asks_for.Nothing → b ≡ false
+    go : (b : Bool) → pick b (Some (batch_number (behind_code t))) None ≡ None → b ≡ false
     go true e = let z : ◌≡◌ {A = ℕ} 0 1 = cc in absurd (omega arith)
     go false e = refl
 

@@ -1,34 +1,34 @@
 -- One law for each step of the code that reads a text. A step's premises have the form that the code's facts have, so that `search`
 -- finds them. Assumes nothing.
-use Prim.Native.Nat.{ℕ, ◌+◌, ◌-◌, ◌*◌, ◌^◌, ◌≤◌, ◌<◌}
-use mathlib.Core.Path.{◌≡◌, refl, ap, sym, ◌∙◌}
-use mathlib.Core.Bool.{Bool, true, false, not, ◌&&◌, ◌||◌, and-false}
+use Prim.Native.Nat.{ℕ, ◌+◌, ◌-◌, ◌*◌, ◌≤◌, ◌<◌}
+use mathlib.Core.Path.{◌≡◌, refl, ap, sym, subst, ◌∙◌}
+use mathlib.Core.Bool.{Bool, true, false, not, ◌&&◌, ◌||◌, and-true, and-false}
 use mathlib.Core.List.{List, [], ◌∷◌, map}
-use native.Mathlib.Nat.{pow-le-pow_right}
+use Rattle.std.specs.Prelude.{Option, Some, None, Result, Ok, Err}
+use Rattle.std.specs.Option.{unwrap_or, ok_or}
 use native.Mathlib.Omega.{arith}
-use lib.Dec.{eqb}
-use lib.ListN.{length, take, drop, get_or, length-drop, length-take, get_or-eq_default}
-use lib.Seq.{take_all, length-take-le, drop-drop}
-use borrow.Author.Tests.{le-leb, lt-leb, lt-ltb, le-ltb, eq-eqb, ne_eqb, eqb-true}
+use lib.Dec.{eqb, leb}
+use lib.ListN.{length, take, drop, get_or, length-drop, get_or-eq_default}
+use lib.Seq.{take_all}
+use borrow.Author.Tests.{le-leb, lt-ltb, le-ltb, eq-eqb, ne_eqb, eqb-true}
 use Rattle.base.specs.Test.{pick, between, member}
 use Rattle.base.proofs.Tests.{by_test, between_high, never}
-use Rattle.text.specs.declared.Digits.{Digits}
-use Rattle.text.specs.declared.Digits.TheVariants as digits_read
-use Rattle.text.specs.Word.{space, all_digits, value_of, number_for, equal, one_of}
-use Rattle.text.proofs.Words.{value_below, equal_true, number-told, number-nothing}
+use Rattle.text.specs.Word.{space, all_digits, value_of, number_for, equal}
+use Rattle.text.proofs.Words.{value_below, number-told}
 use Rattle.state.specs.declared.Range.{Range}
 use Rattle.state.specs.Parameter.{parameter_count, range_at}
 use Rattle.state.specs.Field.{recipe, level, field_range}
 use Rattle.state.specs.Valid.{within}
+use Rattle.command.specs.declared.Reading.TheVariants as reading
+use Rattle.command.specs.declared.Writing.TheVariants as writing
 use Rattle.command.specs.declared.Request.{Request}
 use Rattle.command.specs.declared.Request.TheVariants as request
+use Rattle.command.specs.declared.Refusal.{Refusal}
 use Rattle.command.specs.declared.Refusal.TheVariants as refusal
-use Rattle.command.specs.declared.Numbers.{Numbers}
-use Rattle.command.specs.declared.Numbers.TheVariants as numbers_read
-use Rattle.command.specs.Commands.{RT, PV, XV, PC, XC, NR, SB, RE, Command, code_in, Form, numbers, nothing, digits_between, behind_space, formed, a_place, place_for, place_behind, last_behind, arguments_of, commands, row_of}
+use Rattle.command.specs.Commands.{EQ, RS, TN, RR, RC, RT, PV, XV, PC, XC, NR, SB, SA, SP, ET, RE, EA, AR, Command, code_in, Form, numbers, nothing, a_word, digits_between, formed, a_place, place_number, place_for, place_behind, last_behind, arguments_of, commands, row_of}
 use Rattle.command.specs.Refusals.{refusals, of, arguments_for, unknown_code, not_served, listed}
-use Rattle.command.specs.Answer.{Verdict, NO, accepted}
-use Rattle.command.specs.Request.{numbers_of, whole, Asked, refused, asked, first_by_text, first_by_arguments, unless_refused, asked_with, asked_for, asked_in, request_as}
+use Rattle.command.specs.Answer.{NO, accepted}
+use Rattle.command.specs.Request.{last_of, numbers_of, whole, Asked, refused, asked, first_by_text, first_by_arguments, unless_refused, asked_with, asked_for, asked_in, refusal_number, request_as}
 
 -- ---- a code of the table: the arguments decide if what stands behind the code has the form
 module _ (k : ℕ) (xs : List ℕ) (known : unknown_code k xs ≡ false) (served : not_served k xs ≡ false) where
@@ -41,183 +41,132 @@ module _ (k : ℕ) (xs : List ℕ) (known : unknown_code k xs ≡ false) (served
   malformed-asked f = simp (known, served, f)
 
 -- ---- `alone`
-pub alone_right : (s : List ℕ) (q : Request) → length s ≡ 0 → q ≡ whole nothing s q
+pub alone_form : (s : List ℕ) (q : Request) → whole nothing s q ≡ pick {A = Result Request Refusal} (eqb (length s) 0) (Ok q) (Err refusal.Malformed)
 unfolding formed
-alone_right [] q e = refl
-alone_right (x ∷ s) q e = absurd (omega arith)
-
-pub alone_wrong : (s : List ℕ) (q : Request) → (length s ≡ 0 → ⊥) → request.Refused refusal.Malformed ≡ whole nothing s q
-unfolding formed
-alone_wrong [] q h = absurd (h refl)
-alone_wrong (x ∷ s) q h = refl
-
-pub alone-asked : (k : ℕ) (xs : List ℕ) (q r : Request) → (row_of k commands).form ≡ nothing → unknown_code k xs ≡ false → not_served k xs ≡ false
-    → request_as q ≡ asked_with k (arguments_for k xs) → r ≡ whole nothing xs q → request_as r ≡ asked_for k xs
-alone-asked k xs q r f known served e h =
-    by_test (formed nothing xs)
-    (λ b.
-    let z : whole nothing xs q ≡ q = simp b in
-    ap request_as (h ∙ z) ∙ e ∙ formed-asked k xs known served (ap (λ (x : Form). formed x xs) f ∙ b))
-    (λ b.
-    let z : whole nothing xs q ≡ request.Refused refusal.Malformed = simp b in
-    ap request_as (h ∙ z) ∙ malformed-asked k xs known served (ap (λ (x : Form). formed x xs) f ∙ b))
+alone_form [] q = refl
+alone_form (x ∷ s) q = simp (ne_eqb (length (x ∷ s)) 0 (omega arith))
 
 -- ---- `volume` and `flag`
 
--- several words behind a space, as words that start with the space
-pub words_behind : (ws : List (List ℕ)) (xs : List ℕ) → behind_space (one_of ws) xs ≡ one_of (map (λ (w : List ℕ). space ∷ w) ws) xs
-unfolding equal
-words_behind [] [] = refl
-words_behind [] (x ∷ xs) = and-false (eqb x space)
-words_behind (w ∷ ws) [] = words_behind ws []
-words_behind (w ∷ ws) (x ∷ xs) = spread (eqb x space) (equal xs w) (one_of ws xs) ∙ ap (λ (b : Bool). (eqb x space && equal xs w) || b) (words_behind ws (x ∷ xs))
-  where
-    spread : (a b d : Bool) → (a && (b || d)) ≡ ((a && b) || (a && d))
-    spread true b d = refl
-    spread false b d = refl
+-- by whether a byte is the one of a word
+by_letter : (P : ℕ → Type 0) (y k : ℕ) → P k → (eqb y k ≡ false → P y) → P y
+by_letter P y k p q = by_test (eqb y k) (λ e. subst P (sym (eqb-true y k e)) p) q
 
--- a text that is the word asks for what the word does
-pub word_read : (k : ℕ) (s w : List ℕ) (b : Bool) (q : Asked) → b ≡ equal s w → b ≡ true → q ≡ asked_for k w → q ≡ asked_for k s
-word_read k s w b q e h z = z ∙ sym (ap (asked_for k) (equal_true s w (sym e ∙ h)))
+abbrev pub volume_by : ℕ → Asked
+volume_by y = pick (eqb y 0x52) (asked RT (a_word (0x52 ∷ []))) (pick (member y (0x47 ∷ 0x4e ∷ 0x50 ∷ 0x4d ∷ [])) (refused 8) (refused 1))
 
--- a text that is none of the words
-pub volume_none : (s : List ℕ) (a b d g h : Bool)
-    → a ≡ equal s (0x20 ∷ 0x52 ∷ []) → a ≡ false → b ≡ equal s (0x20 ∷ 0x47 ∷ []) → b ≡ false → d ≡ equal s (0x20 ∷ 0x4e ∷ []) → d ≡ false
-    → g ≡ equal s (0x20 ∷ 0x50 ∷ []) → g ≡ false → h ≡ equal s (0x20 ∷ 0x4d ∷ []) → h ≡ false → refused 1 ≡ asked_for RT s
-unfolding asked_for first_by_text formed row_of
-volume_none s a b d g h a' a'' b' b'' d' d'' g' g'' h' h'' =
-    simp (words_behind, sym a' ∙ a'', sym b' ∙ b'', sym d' ∙ d'', sym g' ∙ g'', sym h' ∙ h'')
+-- a word of two bytes
+abbrev Volume : ℕ → ℕ → Type 0
+Volume x y = asked_for RT (x ∷ y ∷ []) ≡ pick (eqb x space) (volume_by y) (refused 1)
 
-pub flag_none : (s : List ℕ) (a b d : Bool) → a ≡ equal s (0x20 ∷ 0x42 ∷ 0x44 ∷ []) → a ≡ false → b ≡ equal s (0x20 ∷ 0x50 ∷ 0x43 ∷ []) → b ≡ false
-    → d ≡ equal s (0x20 ∷ 0x50 ∷ 0x46 ∷ []) → d ≡ false → refused 1 ≡ asked_for RE s
-unfolding asked_for first_by_text formed row_of
-flag_none s a b d a' a'' b' b'' d' d'' = simp (words_behind, sym a' ∙ a'', sym b' ∙ b'', sym d' ∙ d'')
+volume_letter : (y : ℕ) → Volume space y
+unfolding asked_for first_by_text asked_with first_by_arguments formed row_of equal
+volume_letter y =
+    by_letter (Volume space) y 0x52 refl
+    (λ r.
+    by_letter (Volume space) y 0x47 refl
+    (λ g. by_letter (Volume space) y 0x4e refl (λ n. by_letter (Volume space) y 0x50 refl (λ p. by_letter (Volume space) y 0x4d refl (λ m. simp (r, g, n, p, m))))))
+
+pub volume_form : (s : List ℕ) → asked_for RT s ≡ pick (eqb (length s) 2 && eqb (get_or s 0 0) space) (volume_by (get_or s 1 0)) (refused 1)
+unfolding asked_for first_by_text asked_with first_by_arguments formed row_of equal
+volume_form [] = refl
+volume_form (x ∷ []) = simp and-false
+volume_form (x ∷ y ∷ []) = by_letter (λ a. Volume a y) x space (volume_letter y) (λ h. simp h)
+volume_form (x ∷ y ∷ z ∷ s) = simp (and-false, ne_eqb (length (x ∷ y ∷ z ∷ s)) 2 (omega arith))
+
+abbrev pub flag_by : ℕ → ℕ → Asked
+flag_by y z =
+    pick (eqb y 0x42 && eqb z 0x44) (asked RE (a_word (0x42 ∷ 0x44 ∷ [])))
+    (pick (eqb y 0x50 && eqb z 0x43) (asked RE (a_word (0x50 ∷ 0x43 ∷ []))) (pick (eqb y 0x50 && eqb z 0x46) (refused 8) (refused 1)))
+
+-- a word of three bytes
+abbrev Flag : ℕ → ℕ → ℕ → Type 0
+Flag x y z = asked_for RE (x ∷ y ∷ z ∷ []) ≡ pick (eqb x space) (flag_by y z) (refused 1)
+
+flag_letters : (y z : ℕ) → Flag space y z
+unfolding asked_for first_by_text asked_with first_by_arguments formed row_of equal
+flag_letters y z =
+    by_letter (λ a. Flag space a z) y 0x42 (by_letter (Flag space 0x42) z 0x44 refl (λ d. simp d))
+    (λ b. by_letter (λ a. Flag space a z) y 0x50 (by_letter (Flag space 0x50) z 0x43 refl (λ c. by_letter (Flag space 0x50) z 0x46 refl (λ f. simp (c, f)))) (λ p. simp (b, p)))
+
+pub flag_form : (s : List ℕ) → asked_for RE s ≡ pick (eqb (length s) 3 && eqb (get_or s 0 0) space) (flag_by (get_or s 1 0) (get_or s 2 0)) (refused 1)
+unfolding asked_for first_by_text asked_with first_by_arguments formed row_of equal
+flag_form [] = refl
+flag_form (x ∷ []) = simp and-false
+flag_form (x ∷ y ∷ []) = simp and-false
+flag_form (x ∷ y ∷ z ∷ []) = by_letter (λ a. Flag a y z) x space (flag_letters y z) (λ h. simp h)
+flag_form (x ∷ y ∷ z ∷ w ∷ s) = simp (and-false, ne_eqb (length (x ∷ y ∷ z ∷ w ∷ s)) 3 (omega arith))
 
 -- ---- the part of a text from its byte n on
 abbrev pub behind : ℕ → List ℕ → List ℕ
 behind n s = take (length s - n) (drop n s)
 
-behind_is : (n : ℕ) (s : List ℕ) → behind n s ≡ drop n s
+pub behind_is : (n : ℕ) (s : List ℕ) → behind n s ≡ drop n s
 behind_is n s = take_all (length s - n) (drop n s) (omega (arith, length-drop n s))
 
 -- ---- `last_number`
-pub last_none : (least most : ℕ) (s : List ℕ) → most ≡ 0 → length s ≡ 0 → numbers_read.Read 0 0 ≡ numbers_of false least most s
-unfolding numbers_of formed
-last_none least most [] z e = simp (eq-eqb _ _ z)
-last_none least most (x ∷ s) z e = absurd (omega arith)
+last_digits : (least most : ℕ) (s : List ℕ) → most ≤ 8 → (b : Bool) → between least most (length s) ≡ b
+    → pick {A = Result ℕ Refusal} (b && all_digits s) (Ok (value_of s)) (Err refusal.Malformed) ≡ pick b (ok_or (number_for s) refusal.Malformed) (Err refusal.Malformed)
+unfolding number_for
+last_digits least most s m true e = let l : length s ≤ 8 = omega (arith, between_high least most (length s) e) in simp (le-leb _ _ l) (go (all_digits s))
+  where
+    go : (b : Bool) → pick {A = Result ℕ Refusal} b (Ok (value_of s)) (Err refusal.Malformed) ≡ ok_or (pick b (Some (value_of s)) None) refusal.Malformed
+    go true = refl
+    go false = refl
+last_digits least most s m false e = refl
 
-pub last_extra : (least most : ℕ) (s : List ℕ) → most ≡ 0 → (length s ≡ 0 → ⊥) → numbers_read.Malformed ≡ numbers_of false least most s
-unfolding numbers_of formed
-last_extra least most [] z h = absurd (h refl)
-last_extra least most (x ∷ s) z h = simp (eq-eqb _ _ z)
-
-pub last_missing : (least most : ℕ) (s : List ℕ) → (most ≡ 0 → ⊥) → length s ≡ 0 → numbers_read.Malformed ≡ numbers_of false least most s
-unfolding numbers_of formed
-last_missing least most [] z e = simp (ne_eqb _ _ z)
-last_missing least most (x ∷ s) z e = absurd (omega arith)
-
-last-form : (least most : ℕ) (s : List ℕ) → (most ≡ 0 → ⊥) → (length s ≡ 0 → ⊥) → numbers_of false least most s
-    ≡ pick (eqb (get_or s 0 0) space && (between least most (length (behind 1 s)) && all_digits (behind 1 s))) (numbers_read.Read 0 (value_of (behind 1 s)))
-    numbers_read.Malformed
-unfolding numbers_of formed digits_between
-last-form least most [] z h = absurd (h refl)
-last-form least most (x ∷ s) z h = simp (ne_eqb _ _ z, behind_is 1 (x ∷ s))
-
-module _ (least most : ℕ) (s : List ℕ) (z : most ≡ 0 → ⊥) (y : length s ≡ 0 → ⊥) where
-  pub last-space : (get_or s 0 0 ≡ 0x20 → ⊥) → numbers_read.Malformed ≡ numbers_of false least most s
-  last-space h = sym (last-form least most s z y ∙ simp (ne_eqb _ _ h))
-
-  module _ (h : get_or s 0 0 ≡ 0x20) where
-    pub last-few : length (behind 1 s) < least → numbers_read.Malformed ≡ numbers_of false least most s
-    last-few l = sym (last-form least most s z y ∙ simp (eq-eqb _ _ h, lt-leb _ _ l))
-
-    pub last_many : least ≤ length (behind 1 s) → most < length (behind 1 s) → numbers_read.Malformed ≡ numbers_of false least most s
-    last_many l u = sym (last-form least most s z y ∙ simp (eq-eqb _ _ h, le-leb _ _ l, lt-leb _ _ u))
-
-    module _ (l : least ≤ length (behind 1 s)) (u : length (behind 1 s) ≤ most) (m : most ≤ 8) (d : Digits) (e : d ≡ number_for (behind 1 s)) where
-      few : length (behind 1 s) ≤ 8
-      few = omega arith
-
-      pub last_letter : d ≡ digits_read.Nothing → numbers_read.Malformed ≡ numbers_of false least most s
-      last_letter x = sym (last-form least most s z y ∙ simp (eq-eqb _ _ h, le-leb _ _ l, le-leb _ _ u, number-nothing (behind 1 s) few d e x))
-
-      pub last_read : (n : ℕ) → d ≡ digits_read.Number n → numbers_read.Read 0 n ≡ numbers_of false least most s
-      last_read n x =
-          let i = number-told (behind 1 s) n (sym e ∙ x) in
-          sym (last-form least most s z y ∙ simp (eq-eqb _ _ h, le-leb _ _ l, le-leb _ _ u, i.0, i.1))
-
-pub ruleset last-reading = (last_none, last_extra, last_missing, last-space, last-few, last_many, last_letter, last_read)
+pub last_form : (least most : ℕ) (s : List ℕ) → most ≤ 8
+    → last_of least most s
+    ≡ pick {A = Result ℕ Refusal} (eqb most 0) (pick (eqb (length s) 0) (Ok 0) (Err refusal.Malformed))
+    (pick (eqb (get_or s 0 0) space && between least most (length (behind 1 s))) (ok_or (number_for (behind 1 s)) refusal.Malformed) (Err refusal.Malformed))
+unfolding last_of formed digits_between
+last_form least most [] m = go (eqb most 0)
+  where
+    go : (b : Bool) → pick {A = Result ℕ Refusal} (pick b true false) (Ok (pick b 0 (value_of []))) (Err refusal.Malformed) ≡ pick b (Ok 0) (Err refusal.Malformed)
+    go true = refl
+    go false = refl
+last_form least most (x ∷ s) m = simp (behind_is 1 (x ∷ s), ne_eqb (length (x ∷ s)) 0 (omega arith)) (go (eqb most 0) (eqb x space))
+  where
+    go : (b d : Bool) → pick {A = Result ℕ Refusal} (pick b false (d && (between least most (length s) && all_digits s))) (Ok (pick b 0 (value_of s))) (Err refusal.Malformed)
+        ≡ pick b (Err refusal.Malformed) (pick (d && between least most (length s)) (ok_or (number_for s) refusal.Malformed) (Err refusal.Malformed))
+    go true d = refl
+    go false true = last_digits least most s m (between least most (length s)) refl
+    go false false = refl
 
 -- ---- `parameter_and`
+abbrev pub with_place : Option ℕ → Result ℕ Refusal → Result (ℕ × ℕ) Refusal
+with_place None q = Err refusal.Malformed
+with_place (Some p) (Err e) = Err e
+with_place (Some p) (Ok n) = Ok (place_for p, n)
 
-three : (s : List ℕ) → length (take 3 s) ≤ 3
-three s = simp length-take (omega arith)
+placed : (a b d : Bool) (p n : ℕ) → pick {A = Result (ℕ × ℕ) Refusal} (a && (b && d)) (Ok (place_for p, n)) (Err refusal.Malformed)
+    ≡ pick a (with_place (pick b (Some p) None) (pick d (Ok n) (Err refusal.Malformed))) (Err refusal.Malformed)
+placed true true true p n = refl
+placed true true false p n = refl
+placed true false d p n = refl
+placed false b d p n = refl
 
-pub parameter_small : (s : List ℕ) (n : ℕ) (d : Digits) → d ≡ number_for (take 3 s) → d ≡ digits_read.Number n → n < 10 ^ 3
-parameter_small s n d e x =
-    let h : length (take 3 s) ≤ 3 = three s in
-    let i = number-told (take 3 s) n (sym e ∙ x) in
-    let p : 10 ^ length (take 3 s) ≤ 10 ^ 3 = pow-le-pow_right {n = 10} (omega arith) {i = length (take 3 s)} {j = 3} h in
-    omega (arith, value_below (take 3 s) 0 i.0)
+pub parameter_form : (least most : ℕ) (s : List ℕ)
+    → numbers_of least most s
+    ≡ pick {A = Result (ℕ × ℕ) Refusal} (eqb (get_or s 0 0) space && leb 4 (length s))
+    (with_place (number_for (get_or s 1 0 ∷ get_or s 2 0 ∷ get_or s 3 0 ∷ [])) (last_of least most (behind 4 s))) (Err refusal.Malformed)
+unfolding numbers_of last_of formed digits_between number_for
+parameter_form least most [] = refl
+parameter_form least most (x ∷ []) = simp and-false
+parameter_form least most (x ∷ a ∷ []) = simp and-false
+parameter_form least most (x ∷ a ∷ b ∷ []) = simp and-false
+parameter_form least most (x ∷ a ∷ b ∷ c ∷ s) =
+    let k : 4 ≤ length (x ∷ a ∷ b ∷ c ∷ s) = omega arith in
+    simp (behind_is 4 (x ∷ a ∷ b ∷ c ∷ s), le-leb 4 (length (x ∷ a ∷ b ∷ c ∷ s)) k, and-true)
+    (placed (eqb x space) (all_digits (a ∷ b ∷ c ∷ [])) (formed (numbers false least most) s) (value_of (a ∷ b ∷ c ∷ [])) (last_behind false most s))
 
--- what was read, if anything was
-picked_read : (t : Bool) (m n a b : ℕ) → pick t (numbers_read.Read m n) numbers_read.Malformed ≡ numbers_read.Read a b → (t ≡ true) × (a ≡ m) × (b ≡ n)
-picked_read true m n a b e = (refl, (cc), (cc))
-picked_read false m n a b e = absurd (never (cc))
+-- three digits
+pub number_small : (a b c n : ℕ) → number_for (a ∷ b ∷ c ∷ []) ≡ Some n → n < 1000
+number_small a b c n e = let (all, value) = number-told (a ∷ b ∷ c ∷ []) n e in omega (arith, value_below (a ∷ b ∷ c ∷ []) 0 all)
 
-picked-malformed : (t : Bool) (m n : ℕ) → pick t (numbers_read.Read m n) numbers_read.Malformed ≡ numbers_read.Malformed → t ≡ false
-picked-malformed true m n e = absurd (never (cc))
-picked-malformed false m n e = refl
-
-module _ (p : Bool) (least most : ℕ) (xs : List ℕ) (r : Numbers) (e : r ≡ numbers_of p least most xs) where
-  numbers_read_lem : (a b : ℕ) → r ≡ numbers_read.Read a b → (formed (numbers p least most) xs ≡ true) × (a ≡ place_behind p xs) × (b ≡ last_behind p most xs)
-  unfolding numbers_of
-  numbers_read_lem a b z = picked_read _ _ _ a b (sym e ∙ z)
-
-  numbers-malformed : r ≡ numbers_read.Malformed → formed (numbers p least most) xs ≡ false
-  unfolding numbers_of
-  numbers-malformed z = picked-malformed _ _ _ (sym e ∙ z)
-
-pub parameter-short : (least most : ℕ) (s : List ℕ) → length s < 4 → numbers_read.Malformed ≡ numbers_of true least most s
-unfolding numbers_of formed digits_between
-parameter-short least most [] h = refl
-parameter-short least most (x ∷ s) h =
-    let l : length (take 3 s) < 3 = simp length-take (omega arith) in
-    simp (lt-leb _ _ l, and-false)
-
-parameter-form : (least most : ℕ) (s : List ℕ) → 4 ≤ length s → numbers_of true least most s
-    ≡ pick (eqb (get_or s 0 0) space && (all_digits (take 3 (drop 1 s)) && formed (numbers false least most) (behind 4 s)))
-    (numbers_read.Read (place_for (value_of (take 3 (drop 1 s)))) (last_behind false most (behind 4 s))) numbers_read.Malformed
-unfolding numbers_of formed digits_between
-parameter-form least most [] h = absurd (omega arith)
-parameter-form least most (x ∷ s) h =
-    let l : length (take 3 s) ≡ 3 = length-take-le 3 s (omega arith) in
-    simp (l, behind_is 4 (x ∷ s), drop-drop 1 3 s)
-
-module _ (least most : ℕ) (s : List ℕ) (h : 4 ≤ length s) where
-  pub parameter-space : (get_or s 0 0 ≡ 0x20 → ⊥) → numbers_read.Malformed ≡ numbers_of true least most s
-  parameter-space d = sym (parameter-form least most s h ∙ simp (ne_eqb _ _ d))
-
-  module _ (d : get_or s 0 0 ≡ 0x20) (k : Digits) (e : k ≡ number_for (take 3 (drop 1 s))) where
-    few-digits : length (take 3 (drop 1 s)) ≤ 8
-    few-digits = omega (arith, three (drop 1 s))
-
-    pub parameter_letter : k ≡ digits_read.Nothing → numbers_read.Malformed ≡ numbers_of true least most s
-    parameter_letter x = sym (parameter-form least most s h ∙ simp (eq-eqb _ _ d, number-nothing (take 3 (drop 1 s)) few-digits k e x))
-
-    module _ (n : ℕ) (x : k ≡ digits_read.Number n) (q : Numbers) (z : q ≡ numbers_of false least most (behind 4 s)) where
-      pub parameter_wrong : q ≡ numbers_read.Malformed → numbers_read.Malformed ≡ numbers_of true least most s
-      parameter_wrong y =
-          let j = number-told (take 3 (drop 1 s)) n (sym e ∙ x) in
-          sym (parameter-form least most s h ∙ simp (eq-eqb _ _ d, j.0, numbers-malformed false least most (behind 4 s) q z y))
-
-      pub parameter_read : (a b i : ℕ) → i ≡ place_for n → q ≡ numbers_read.Read a b → numbers_read.Read i b ≡ numbers_of true least most s
-      parameter_read a b i w y =
-          let j = number-told (take 3 (drop 1 s)) n (sym e ∙ x) in
-          let l = numbers_read_lem false least most (behind 4 s) q z a b y in
-          ap (λ (m : ℕ). numbers_read.Read m b) w ∙ sym (parameter-form least most s h ∙ simp (eq-eqb _ _ d, j.0, j.1, l.0, l.2))
-
-pub ruleset parameter-reading = (parameter-short, parameter-space, parameter_letter, parameter_wrong, parameter_read)
+pub place_or_none : (o : Option ℕ) → unwrap_or o parameter_count ≡ place_number o
+place_or_none (Some i) = refl
+place_or_none None = refl
 
 -- ---- `parse`
 
@@ -242,7 +191,7 @@ onto ys (x ∷ xs) = onto (x ∷ ys) xs
 abbrev codes_back : List ℕ
 codes_back = onto [] (map (λ (k : Command). k.code) commands)
 
-unknown : (c : ℕ) (xs : List ℕ) → differs c codes_back → refused 0 ≡ asked_for c xs
+pub unknown : (c : ℕ) (xs : List ℕ) → differs c codes_back → refused 0 ≡ asked_for c xs
 unfolding asked_for first_by_text
 unknown c xs h = simp (absent c codes_back h)
 
@@ -253,31 +202,115 @@ parsed_short t h =
     let z : get_or t 3 0 ≡ 0 = get_or-eq_default t 0 l in
     unknown (get_or t 2 0 * 256 + get_or t 3 0) (drop 4 t) (omega arith)
 
-module _ (t : List ℕ) (a b : ℕ) (x : a ≡ get_or t 2 0) (y : b ≡ get_or t 3 0) where
-  pub parsed : (k : ℕ) (q : Asked) → a * 256 + b ≡ k → q ≡ asked_for k (behind 4 t) → q ≡ asked_in t
-  unfolding asked_in code_in
-  parsed k q e z =
-      let c : k ≡ get_or t 2 0 * 256 + get_or t 3 0 = omega arith in
-      z ∙ ap (λ (i : ℕ). asked_for i (behind 4 t)) c ∙ ap (asked_for (get_or t 2 0 * 256 + get_or t 3 0)) (behind_is 4 t)
+-- what the numbers of a form ask for, or what refuses them
+abbrev pub with_numbers : ℕ → Result (ℕ × ℕ) Refusal → Asked
+with_numbers k (Ok (i, n)) = asked_with k (a_place i n)
+with_numbers k (Err d) = refused (refusal_number d)
 
-  pub parsed_unknown : differs (a * 256 + b) codes_back → refused 0 ≡ asked_in t
-  parsed_unknown h = parsed (a * 256 + b) (refused 0) refl (unknown (a * 256 + b) (behind 4 t) h)
+abbrev pub with_number : ℕ → Result ℕ Refusal → Asked
+with_number k (Ok n) = asked_with k (a_place 0 n)
+with_number k (Err d) = refused (refusal_number d)
 
--- a request of numbers
-module _ (k : ℕ) (p : Bool) (least most : ℕ) (xs : List ℕ) (f : (row_of k commands).form ≡ numbers p least most) (known : unknown_code k xs ≡ false)
-    (served : not_served k xs ≡ false) (r : Numbers) (e : r ≡ numbers_of p least most xs) where
-  pub numbers-asked : (a b i j : ℕ) → r ≡ numbers_read.Read a b → (a ≡ place_behind p xs → i ≡ place_behind p xs) → (b ≡ last_behind p most xs → j ≡ last_behind p most xs)
-      → (q : Asked) → q ≡ asked_with k (a_place i j) → q ≡ asked_for k xs
-  numbers-asked a b i j z u v q w =
-      let (t, m, n) = numbers_read_lem p least most xs r e a b z in
-      w
-      ∙ ap (λ (o : ℕ). asked_with k (a_place o j)) (u m)
-      ∙ ap (λ (o : ℕ). asked_with k (a_place (place_behind p xs) o)) (v n)
-      ∙ ap (λ (x : Form). asked_with k (arguments_of x xs)) (sym f)
-      ∙ formed-asked k xs known served (ap (λ (x : Form). formed x xs) f ∙ t)
+-- PV and XV: a place beyond the last is all that refuses
+abbrev pub with_listed : ℕ → Result (ℕ × ℕ) Refusal → Asked
+with_listed k (Ok (i, n)) = pick (listed i) (asked k (a_place i 0)) (refused 4)
+with_listed k (Err d) = refused (refusal_number d)
 
-  pub numbers-refused : r ≡ numbers_read.Malformed → refused 1 ≡ asked_for k xs
-  numbers-refused z = malformed-asked k xs known served (ap (λ (x : Form). formed x xs) f ∙ numbers-malformed p least most xs r e z)
+-- a code of the table whose form has no argument, or numbers
+module _ (k : ℕ) (xs : List ℕ) (known : unknown_code k xs ≡ false) (served : not_served k xs ≡ false) where
+  by_form : (f : Form) (q : Asked) → (row_of k commands).form ≡ f → (formed f xs ≡ true → q ≡ asked_with k (arguments_of f xs)) → (formed f xs ≡ false → q ≡ refused 1)
+      → asked_for k xs ≡ q
+  by_form f q e right wrong =
+      sym (by_test (formed f xs)
+      (λ b. right b ∙ ap (λ (x : Form). asked_with k (arguments_of x xs)) (sym e) ∙ formed-asked k xs known served (ap (λ (x : Form). formed x xs) e ∙ b))
+      (λ b. wrong b ∙ malformed-asked k xs known served (ap (λ (x : Form). formed x xs) e ∙ b)))
+
+  by_alone : (q : Request) → (row_of k commands).form ≡ nothing → request_as (Ok q) ≡ asked_with k (a_place 0 0) → asked_for k xs ≡ request_as (whole nothing xs q)
+  by_alone q e h = by_form nothing _ e (λ b. simp b h) (λ b. simp b)
+
+  by_numbers : (least most : ℕ) → (row_of k commands).form ≡ numbers true least most → asked_for k xs ≡ with_numbers k (numbers_of least most xs)
+  unfolding numbers_of
+  by_numbers least most e = by_form (numbers true least most) _ e (λ b. simp b) (λ b. simp b)
+
+  by_number : (least most : ℕ) → (row_of k commands).form ≡ numbers false least most → asked_for k xs ≡ with_number k (last_of least most xs)
+  unfolding last_of
+  by_number least most e = by_form (numbers false least most) _ e (λ b. simp b) (λ b. simp b)
+
+  by_listed : (row_of k commands).form ≡ numbers true 0 0 → ((i : ℕ) → first_by_arguments refusals k (a_place i 0) ≡ pick (not (listed i)) (NO 4) accepted)
+      → asked_for k xs ≡ with_listed k (numbers_of 0 0 xs)
+  unfolding numbers_of asked_with
+  by_listed e h = by_form (numbers true 0 0) _ e (λ b. simp (b, h) (go (listed (place_behind true xs)) (asked k (a_place (place_behind true xs) 0)))) (λ b. simp b)
+    where
+      go : (b : Bool) (q : Asked) → pick b q (refused 4) ≡ unless_refused (pick (not b) (NO 4) accepted) q
+      go true q = refl
+      go false q = refl
+
+module _ (xs : List ℕ) where
+  pub EQ_form : asked_for EQ xs ≡ request_as (whole nothing xs (request.Read reading.Status))
+  unfolding row_of asked_with first_by_arguments
+  EQ_form = by_alone EQ xs refl refl _ refl refl
+
+  pub RS_form : asked_for RS xs ≡ request_as (whole nothing xs (request.Read reading.Codes))
+  unfolding row_of asked_with first_by_arguments
+  RS_form = by_alone RS xs refl refl _ refl refl
+
+  pub TN_form : asked_for TN xs ≡ request_as (whole nothing xs (request.Read reading.Number))
+  unfolding row_of asked_with first_by_arguments
+  TN_form = by_alone TN xs refl refl _ refl refl
+
+  pub RR_form : asked_for RR xs ≡ request_as (whole nothing xs (request.Read reading.Recipe))
+  unfolding row_of asked_with first_by_arguments
+  RR_form = by_alone RR xs refl refl _ refl refl
+
+  pub RC_form : asked_for RC xs ≡ request_as (whole nothing xs (request.Read reading.Composition))
+  unfolding row_of asked_with first_by_arguments
+  RC_form = by_alone RC xs refl refl _ refl refl
+
+  pub EA_form : asked_for EA xs ≡ request_as (whole nothing xs (request.Read reading.Alarms))
+  unfolding row_of asked_with first_by_arguments
+  EA_form = by_alone EA xs refl refl _ refl refl
+
+  pub SA_form : asked_for SA xs ≡ request_as (whole nothing xs (request.Write writing.Start))
+  unfolding row_of asked_with first_by_arguments
+  SA_form = by_alone SA xs refl refl _ refl refl
+
+  pub SP_form : asked_for SP xs ≡ request_as (whole nothing xs (request.Write writing.Stop))
+  unfolding row_of asked_with first_by_arguments
+  SP_form = by_alone SP xs refl refl _ refl refl
+
+  pub ET_form : asked_for ET xs ≡ request_as (whole nothing xs (request.Write writing.End))
+  unfolding row_of asked_with first_by_arguments
+  ET_form = by_alone ET xs refl refl _ refl refl
+
+  pub AR_form : asked_for AR xs ≡ request_as (whole nothing xs (request.Write writing.ResetAlarms))
+  unfolding row_of asked_with first_by_arguments
+  AR_form = by_alone AR xs refl refl _ refl refl
+
+  pub PV_form : asked_for PV xs ≡ with_listed PV (numbers_of 0 0 xs)
+  unfolding row_of first_by_arguments
+  PV_form = by_listed PV xs refl refl refl (λ i. refl)
+
+  pub XV_form : asked_for XV xs ≡ with_listed XV (numbers_of 0 0 xs)
+  unfolding row_of first_by_arguments
+  XV_form = by_listed XV xs refl refl refl (λ i. refl)
+
+  pub PC_form : asked_for PC xs ≡ with_numbers PC (numbers_of 1 8 xs)
+  unfolding row_of
+  PC_form = by_numbers PC xs refl refl 1 8 refl
+
+  pub XC_form : asked_for XC xs ≡ with_numbers XC (numbers_of 1 1 xs)
+  unfolding row_of
+  XC_form = by_numbers XC xs refl refl 1 1 refl
+
+  pub NR_form : asked_for NR xs ≡ with_number NR (last_of 2 2 xs)
+  unfolding row_of
+  NR_form = by_number NR xs refl refl 2 2 refl
+
+  pub SB_form : asked_for SB xs ≡ with_number SB (last_of 1 6 xs)
+  unfolding row_of
+  SB_form = by_number SB xs refl refl 1 6 refl
+
+pub ruleset forms = (EQ_form, RS_form, TN_form, RR_form, RC_form, EA_form, SA_form, SP_form, ET_form, AR_form, PV_form, XV_form, PC_form, XC_form, NR_form, SB_form)
 
 -- ---- by the arguments
 
@@ -287,20 +320,6 @@ module _ (i : ℕ) (q : Asked) where
 
   pub place_nowhere : parameter_count ≤ i → refused 4 ≡ pick (listed i) q (refused 4)
   place_nowhere h = simp (le-ltb i parameter_count h)
-
--- PV and XV: a place beyond the last is all that refuses
-place-asked : (b : Bool) (q : Asked) → pick b q (refused 4) ≡ unless_refused (pick (not b) (NO 4) accepted) q
-place-asked true q = refl
-place-asked false q = refl
-
-pub place_read : (k : ℕ) (xs : List ℕ) → (row_of k commands).form ≡ numbers true 0 0 → unknown_code k xs ≡ false → not_served k xs ≡ false
-    → (r : Numbers) → r ≡ numbers_of true 0 0 xs → (i b : ℕ) → r ≡ numbers_read.Read i b
-    → first_by_arguments refusals k (a_place i 0) ≡ pick (not (listed i)) (NO 4) accepted
-    → (q : Asked) → q ≡ pick (listed i) (asked k (a_place i 0)) (refused 4) → q ≡ asked_for k xs
-unfolding asked_with
-place_read k xs f known served r e i b z h q w =
-    numbers-asked k true 0 0 xs f known served r e i b i 0 z (λ (x : i ≡ place_behind true xs). x) (λ (x : b ≡ 0). refl) q
-    (w ∙ place-asked (listed i) (asked k (a_place i 0)) ∙ ap (λ (v : Verdict). unless_refused v (asked k (a_place i 0))) (sym h))
 
 module _ (i n : ℕ) where
   pub nowhere_asked : (k : ℕ) → of (PV ∷ XV ∷ PC ∷ XC ∷ []) k ≡ true → parameter_count ≤ i → refused 4 ≡ asked_with k (a_place i n)

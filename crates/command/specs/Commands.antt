@@ -1,11 +1,9 @@
 -- Document 01, "Commands", first table, with the rows of 02, L1, PC's flag by 02, L2, and what a bank adds by 02, L7: each request's code, the
 -- form of its arguments, its reply if accepted, and its effect.
-use Rattle.std.specs.Prelude.{ℕ, ◌+◌, ◌*◌, Bool, true, false, ◌&&◌, List, [], ◌∷◌, ◌++◌, eqb, length, get_or, take, drop}
+use Rattle.std.specs.Prelude.{ℕ, ◌+◌, ◌*◌, Bool, true, false, ◌&&◌, Option, Some, None, List, [], ◌∷◌, ◌++◌, eqb, length, get_or, take, drop}
 use Rattle.base.specs.Text.{text, letters}
 use Rattle.state.specs.declared.Record.{Record}
 use Rattle.state.specs.declared.ParameterKind.TheVariants.{Factor}
-use Rattle.state.specs.declared.Place.{Place}
-use Rattle.state.specs.declared.Place.TheVariants.{At, Nothing}
 use Rattle.base.specs.Test.{pick, between, member}
 use Rattle.state.specs.Parameter.{parameter_count, place_of, code_at, recipe_place}
 use Rattle.state.specs.Field.{Field, phase, changed, reset, recipe, preset, raw, number, alarms, value, level, get, put, on, off}
@@ -132,9 +130,9 @@ abbrev pub a_word : List ℕ → Arguments
 a_word w = record { place = 0; number = 0; word = w }
 
 -- the place of a parameter code; beyond the last if it has none
-abbrev pub place_number : Place → ℕ
-place_number (At i) = i
-place_number Nothing = parameter_count
+abbrev pub place_number : Option ℕ → ℕ
+place_number (Some i) = i
+place_number None = parameter_count
 
 abbrev pub place_for : ℕ → ℕ
 place_for p = place_number (place_of p)

@@ -1,6 +1,6 @@
 -- The same in two steps, as the code takes them: the text alone gives a refusal, or a code with its arguments; the record then decides.
 -- All of it is read off the two tables.
-use Rattle.std.specs.Prelude.{ℕ, Bool, false, not, ◌||◌, List, [], ◌∷◌, ◌++◌, eqb, ltb}
+use Rattle.std.specs.Prelude.{ℕ, Bool, true, false, not, ◌||◌, Option, Some, None, Result, Ok, Err, List, [], ◌∷◌, ◌++◌, eqb, ltb}
 use Rattle.base.specs.Text.{text}
 use Rattle.state.specs.declared.Record.{Record}
 use Rattle.base.specs.Test.{pick, member}
@@ -15,19 +15,10 @@ use Rattle.command.specs.declared.Request.{Request}
 use Rattle.command.specs.declared.Request.TheVariants as request
 use Rattle.command.specs.declared.Refusal.{Refusal}
 use Rattle.command.specs.declared.Refusal.TheVariants as refusal
-use Rattle.command.specs.declared.Decision.{Decision}
-use Rattle.command.specs.declared.Decision.TheVariants as decision
-use Rattle.command.specs.declared.Answer.{Answer}
-use Rattle.command.specs.declared.Effect.{Effect}
-use Rattle.command.specs.declared.Effect.TheVariants as effect
-use Rattle.command.specs.declared.Answer.TheVariants as answer
 use Rattle.command.specs.declared.Phases.{Phases}
 use Rattle.command.specs.declared.Phases.TheVariants as phases
+use Rattle.command.specs.declared.LevelGuard.{LevelGuard}
 use Rattle.command.specs.declared.Guards.{Guards}
-use Rattle.command.specs.declared.BatchAsked.{BatchAsked}
-use Rattle.command.specs.declared.BatchAsked.TheVariants as asks_for
-use Rattle.command.specs.declared.Numbers.{Numbers}
-use Rattle.command.specs.declared.Numbers.TheVariants as numbers_read
 use Rattle.command.specs.Commands.{EQ, RS, TN, RR, RC, RT, PV, XV, PC, XC, NR, SB, SA, SP, ET, RE, EA, AR, code_in, Form, numbers, formed, Arguments, none, a_place, a_word, place_behind, last_behind, Reply, acknowledged, printed, Change, applied, commands, row_of, batch_asked, batch_number}
 use Rattle.command.specs.Refusals.{Row, by_text, by_arguments, by_field, refusals, arguments_for}
 use Rattle.command.specs.Answer.{Verdict, NO, accepted, behind_code, refusal_text}
@@ -68,8 +59,8 @@ unfoldable pub asked_in : List ℕ → Asked
 asked_in t = asked_for (code_in t) (behind_code t)
 
 -- the kept batch that a text asks for, by its number
-unfoldable pub batch_in : List ℕ → BatchAsked
-batch_in t = pick (batch_asked (code_in t) (behind_code t)) (asks_for.Number (batch_number (behind_code t))) asks_for.Nothing
+unfoldable pub batch_in : List ℕ → Option ℕ
+batch_in t = pick (batch_asked (code_in t) (behind_code t)) (Some (batch_number (behind_code t))) None
 
 -- ---- what refuses it by the record: the rows that look at a field, each a test of that field's number
 pub record Guard : Type 0 where
@@ -136,9 +127,9 @@ refusal_number refusal.NotServed = 8
 refusal_number refusal.UnknownRecipe = 30
 refusal_number refusal.Alarm = 9
 
-abbrev pub decision_as : Decision → Verdict
-decision_as decision.Accepted = accepted
-decision_as (decision.Refused k) = NO (refusal_number k)
+abbrev pub decision_as : Result Unit Refusal → Verdict
+decision_as (Ok u) = accepted
+decision_as (Err k) = NO (refusal_number k)
 
 -- the code and the arguments of a read and of a write
 abbrev pub as_read : Reading → ℕ × Arguments
@@ -170,20 +161,34 @@ reading_as q = asked (as_read q).0 (as_read q).1
 abbrev pub writing_as : Writing → Asked
 writing_as q = asked (as_written q).0 (as_written q).1
 
-abbrev pub request_as : Request → Asked
-request_as (request.Refused k) = refused (refusal_number k)
-request_as (request.Read q) = reading_as q
-request_as (request.Write q) = writing_as q
+abbrev pub request_as : Result Request Refusal → Asked
+request_as (Err k) = refused (refusal_number k)
+request_as (Ok (request.Read q)) = reading_as q
+request_as (Ok (request.Write q)) = writing_as q
 
-abbrev pub answer_as : Answer → Answered
-answer_as (answer.No k) = no (refusal_number k)
-answer_as (answer.Shows q) = shows (reply_of (reading_as q))
-answer_as answer.Ok = shows acknowledged
+-- what was served: a request that is accepted, or what refuses it
+abbrev pub answer_as : Result Request Refusal → Answered
+answer_as (Err k) = no (refusal_number k)
+answer_as (Ok (request.Read q)) = shows (reply_of (reading_as q))
+answer_as (Ok (request.Write q)) = shows acknowledged
+
+abbrev pub effect_of : Result Request Refusal → Option Writing
+effect_of (Err k) = None
+effect_of (Ok (request.Read q)) = None
+effect_of (Ok (request.Write q)) = Some q
 
 -- the record afterwards
-abbrev pub effect_as : Effect → Record → Record
-effect_as effect.Nothing r = r
-effect_as (effect.Write q) r = applied (changes_of (writing_as q)) r
+abbrev pub effect_as : Option Writing → Record → Record
+effect_as None r = r
+effect_as (Some q) r = applied (changes_of (writing_as q)) r
+
+abbrev pub served_as : Result Request Refusal → Record → Answered × Record
+served_as q r = (answer_as q, effect_as (effect_of q) r)
+
+-- a write, or what refuses it, as a request
+abbrev pub to_write : Result Writing Refusal → Result Request Refusal
+to_write (Ok q) = Ok (request.Write q)
+to_write (Err k) = Err k
 
 -- ---- guards
 abbrev pub keypad_guard : Guard
@@ -202,32 +207,36 @@ alarm_guard = record { refusal = 9; field = alarms; refuses = λ n. not (eqb n n
 abbrev pub keypad_guards : Bool → List Guard
 keypad_guards b = pick b (keypad_guard ∷ []) []
 
-abbrev pub level_guards : ℕ → Guards → List Guard
-level_guards a g = pick g.level (level_guard a g.above g.place ∷ []) []
+abbrev pub level_guards : ℕ → Option LevelGuard → List Guard
+level_guards a None = []
+level_guards a (Some l) = level_guard a l.above l.place ∷ []
 
-abbrev pub phase_guards : Phases → List Guard
-phase_guards phases.Any = []
-phase_guards phases.IdleOrDone = phase_guard (idle ∷ done ∷ []) ∷ []
-phase_guards phases.SetOrStopped = phase_guard (set ∷ stopped ∷ []) ∷ []
-phase_guards phases.Running = phase_guard (running ∷ []) ∷ []
-phase_guards phases.SetStoppedOrDone = phase_guard (set ∷ stopped ∷ done ∷ []) ∷ []
+abbrev pub phase_guards : Option Phases → List Guard
+phase_guards None = []
+phase_guards (Some phases.IdleOrDone) = phase_guard (idle ∷ done ∷ []) ∷ []
+phase_guards (Some phases.SetOrStopped) = phase_guard (set ∷ stopped ∷ []) ∷ []
+phase_guards (Some phases.Running) = phase_guard (running ∷ []) ∷ []
+phase_guards (Some phases.SetStoppedOrDone) = phase_guard (set ∷ stopped ∷ done ∷ []) ∷ []
 
 abbrev pub alarm_guards : Bool → List Guard
 alarm_guards b = pick b (alarm_guard ∷ []) []
 
 abbrev pub guards_as : ℕ → Guards → List Guard
-guards_as a g = keypad_guards g.keypad ++ (level_guards a g ++ (phase_guards g.phases ++ alarm_guards g.alarms))
+guards_as a g = keypad_guards g.keypad ++ (level_guards a g.level ++ (phase_guards g.phases ++ alarm_guards g.alarms))
 
-abbrev pub plain_guards : Bool → Phases → Guards
-plain_guards b ps = record { keypad = b; level = false; place = 0; above = false; phases = ps; alarms = false }
+abbrev pub plain_guards : Bool → Option Phases → Guards
+plain_guards b ps = record { keypad = b; level = None; phases = ps; alarms = false }
 
 -- ---- steps of reading a text
 
--- the place and the number of a form
-unfoldable pub numbers_of : Bool → ℕ → ℕ → List ℕ → Numbers
-numbers_of p least most xs =
-    pick (formed (numbers p least most) xs) (numbers_read.Read (place_behind p xs) (last_behind p most xs)) numbers_read.Malformed
+-- the number of a form without a parameter code
+unfoldable pub last_of : ℕ → ℕ → List ℕ → Result ℕ Refusal
+last_of least most xs = pick (formed (numbers false least most) xs) (Ok (last_behind false most xs)) (Err refusal.Malformed)
+
+-- the place and the number of a form with one
+unfoldable pub numbers_of : ℕ → ℕ → List ℕ → Result (ℕ × ℕ) Refusal
+numbers_of least most xs = pick (formed (numbers true least most) xs) (Ok (place_behind true xs, last_behind true most xs)) (Err refusal.Malformed)
 
 -- a request if what follows the code has the form
-abbrev pub whole : Form → List ℕ → Request → Request
-whole f xs q = pick (formed f xs) q (request.Refused refusal.Malformed)
+abbrev pub whole : Form → List ℕ → Request → Result Request Refusal
+whole f xs q = pick (formed f xs) (Ok q) (Err refusal.Malformed)

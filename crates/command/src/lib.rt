@@ -1,20 +1,15 @@
 // A request's text as a value, what refuses it, and what it changes.
 #![tactic(auto)]
 
-ghost use Rattle.std.specs.Prelude.{◌≡◌, true, false, ◌≤◌, ◌<◌};
+ghost use Rattle.std.specs.Prelude.{◌≡◌, ◌≤◌, ◌<◌, length};
 ghost use Rattle.state.specs.Field.{Field, get, put};
-ghost use Rattle.base.specs.Test.{pick, member};
-ghost use Rattle.command.specs.Commands.{RT, PC, XC, NR, SB, RE, nothing, a_place, place_for, applied};
+ghost use Rattle.base.specs.Test.{pick};
+ghost use Rattle.command.specs.Commands.{RT, PC, XC, NR, SB, RE, nothing, a_place, code_in, applied};
 ghost use Rattle.command.specs.Refusals.{listed};
-ghost use Rattle.command.specs.Answer.{NO, accepted};
-ghost use Rattle.command.specs.Request.{refused, numbers_of, whole, asked_for, asked_in, asked_with, guards_of, guarded, and_then, plain_guards, keypad_guards, level_guards, phase_guards, alarm_guards, guards_as, changes_of, served_of, batch_in, refusal_number, decision_as, request_as, writing_as, answer_as, effect_as};
+ghost use Rattle.command.specs.Request.{refused, last_of, numbers_of, whole, asked_for, asked_in, asked_with, guards_of, guarded, plain_guards, keypad_guards, level_guards, phase_guards, alarm_guards, guards_as, changes_of, served_of, batch_in, refusal_number, decision_as, request_as, writing_as, reading_as, to_write, effect_of, effect_as, served_as};
 
-use base::{is_among, wide};
-use state::{
-    DONE, IDLE, LEVEL_RANGE, PARAMETERS, Place, RECIPE_RANGE, RUNNING, Record, SET, STOPPED,
-    place_of, within,
-};
-use text::{Digits, is_word, read_number};
+use state::{LEVEL_RANGE, PARAMETERS, Phase, RECIPE_RANGE, Record, place_of, within};
+use text::{read_number, word_at};
 
 // What a request asks to be shown; a parameter is given by its place.
 #[derive(Clone, Copy)]
@@ -64,16 +59,15 @@ pub enum Writing {
     ResetAlarms,
 }
 
-// What a text asks for, its numbers in range; or what refuses it whatever the record.
+// What a text asks for, its numbers in range.
 #[derive(Clone, Copy)]
 pub enum Request {
-    Refused(Refusal),
     Read(Reading),
     Write(Writing),
 }
 
-// Why a request is refused.
-#[derive(Clone, Copy)]
+// Why a request is refused, whatever the record or by it.
+#[derive(Clone, Copy, PartialEq, Eq)]
 pub enum Refusal {
     // NO00
     UnknownCode,
@@ -98,37 +92,39 @@ pub enum Refusal {
 }
 
 // The number that goes out with a refusal.
-pub fn number_of(refusal: Refusal) -> u32
-    ensures { result ≡ refusal_number refusal }
-{
-    match refusal {
-        Refusal::UnknownCode => 0,
-        Refusal::Malformed => 1,
-        Refusal::Keypad => 2,
-        Refusal::UnknownParameter => 4,
-        Refusal::Phase => 5,
-        Refusal::Range => 6,
-        Refusal::Level => 7,
-        Refusal::NotServed => 8,
-        Refusal::UnknownRecipe => 30,
-        Refusal::Alarm => 9,
-    }
-}
+impl From<Refusal> for u32 {
+    ghost from_gives = { λ refusal n. n ≡ refusal_number refusal };
 
-#[derive(Clone, Copy)]
-pub enum Decision {
-    Accepted,
-    Refused(Refusal),
+    fn from(refusal: Refusal) -> u32 {
+        match refusal {
+            Refusal::UnknownCode => 0,
+            Refusal::Malformed => 1,
+            Refusal::Keypad => 2,
+            Refusal::UnknownParameter => 4,
+            Refusal::Phase => 5,
+            Refusal::Range => 6,
+            Refusal::Level => 7,
+            Refusal::NotServed => 8,
+            Refusal::UnknownRecipe => 30,
+            Refusal::Alarm => 9,
+        }
+    }
 }
 
 // The phases in which a write is not refused.
 #[derive(Clone, Copy)]
 pub enum Phases {
-    Any,
     IdleOrDone,
     SetOrStopped,
     Running,
     SetStoppedOrDone,
+}
+
+// NO07: the level at a place; or that a new level is above the access.
+#[derive(Clone, Copy)]
+pub struct LevelGuard {
+    pub place: usize,
+    pub above: bool,
 }
 
 // What may refuse a write by the record.
@@ -136,41 +132,16 @@ pub enum Phases {
 pub struct Guards {
     // NO02: the keypad.
     pub keypad: bool,
-    // NO07: the level at the place; or that a new level is above the access.
-    pub level: bool,
-    pub place: usize,
-    pub above: bool,
+    pub level: Option<LevelGuard>,
     // NO05
-    pub phases: Phases,
+    pub phases: Option<Phases>,
     // NO09: whether no alarm may be on.
     pub alarms: bool,
 }
 
-// What is replied.
-#[derive(Clone, Copy)]
-pub enum Answer {
-    No(Refusal),
-    Shows(Reading),
-    Ok,
-}
-
-// The kept batch that a text asks for, by its number.
-#[derive(Clone, Copy)]
-pub enum BatchAsked {
-    Number(u32),
-    Nothing,
-}
-
-// A parameter's place and a number, 0 where the form has none.
-#[derive(Clone, Copy)]
-enum Numbers {
-    Read(usize, u32),
-    Malformed,
-}
-
 const SPACE: u8 = 0x20;
 
-// The codes, two letters as one number.
+// The codes, two letters as one number: document 01 names this form.
 const EQ: u32 = 0x4551;
 
 const RS: u32 = 0x5253;
@@ -209,180 +180,137 @@ const AR: u32 = 0x4152;
 
 // ---- reading a text
 
-// A number of least to most digits behind a space, and nothing else; with a most of 0 nothing at all.
-fn last_number(s: &[u8], least: usize, most: usize) -> Numbers
+// A number of least to most digits behind a space, and nothing else; with a most of 0 nothing at all, which counts as 0.
+#[tactic(auto, using(crate::proofs::Parsing::last_form))]
+fn last_number(s: &[u8], least: usize, most: usize) -> Result<u32, Refusal>
     requires { most ≤ 8 }
-    ensures { result ≡ numbers_of false least most s.now }
+    ensures { result ≡ last_of least most s.now }
 {
-    if most == 0 {
-        if s.len() == 0 {
-            return Numbers::Read(0, 0);
+    match s {
+        [] if most == 0 => Ok(0),
+        [SPACE, digits @ ..] if 0 < most && least <= digits.len() && digits.len() <= most => {
+            read_number(digits).ok_or(Refusal::Malformed)
         }
-        return Numbers::Malformed;
+        _ => Err(Refusal::Malformed),
     }
-    if s.len() == 0 {
-        return Numbers::Malformed;
-    }
-    if s[0] != SPACE {
-        return Numbers::Malformed;
-    }
-    let digits = &s[1..];
-    if digits.len() < least {
-        return Numbers::Malformed;
-    }
-    if most < digits.len() {
-        return Numbers::Malformed;
-    }
-    let Digits::Number(n) = read_number(digits) else {
-        return Numbers::Malformed;
-    };
-    Numbers::Read(0, n)
 }
 
-// A parameter code of three digits behind a space, and then as above.
-fn parameter_and(s: &[u8], least: usize, most: usize) -> Numbers
+// The place of a parameter code of three digits behind a space, beyond the last for a code that is not in the list; and then as above.
+#[tactic(auto, using(crate::proofs::Parsing::parameter_form, crate::proofs::Parsing::number_small, crate::proofs::Parsing::place_or_none))]
+fn parameter_and(s: &[u8], least: usize, most: usize) -> Result<(usize, u32), Refusal>
     requires { most ≤ 8 }
-    ensures { result ≡ numbers_of true least most s.now }
+    ensures { result ≡ numbers_of least most s.now }
 {
-    if s.len() < 4 {
-        return Numbers::Malformed;
-    }
-    if s[0] != SPACE {
-        return Numbers::Malformed;
-    }
-    let Digits::Number(code) = read_number(&s[1..4]) else {
-        return Numbers::Malformed;
+    let [SPACE, a, b, c, rest @ ..] = s else {
+        return Err(Refusal::Malformed);
     };
-    let place = place(code as u16);
-    let Numbers::Read(_, last) = last_number(&s[4..], least, most) else {
-        return Numbers::Malformed;
-    };
-    Numbers::Read(place, last)
-}
-
-// The place of a parameter code; beyond the last if it has none.
-fn place(code: u16) -> usize
-    ensures { result ≡ place_for code }
-{
-    let Place::At(i) = place_of(code) else {
-        return PARAMETERS;
-    };
-    i
+    let code = read_number(&[*a, *b, *c]).ok_or(Refusal::Malformed)?;
+    let last = last_number(rest, least, most)?;
+    Ok((place_of(code as u16).unwrap_or(PARAMETERS), last))
 }
 
 // The request if nothing follows the code.
-fn alone(s: &[u8], request: Request) -> Request
+#[tactic(auto, using(crate::proofs::Parsing::alone_form))]
+fn alone(s: &[u8], request: Request) -> Result<Request, Refusal>
     ensures { result ≡ whole nothing s.now request }
 {
-    if s.len() == 0 {
-        return request;
+    if s.is_empty() {
+        Ok(request)
+    } else {
+        Err(Refusal::Malformed)
     }
-    Request::Refused(Refusal::Malformed)
 }
 
 // RT: the raw volume is served, four others are not.
-fn volume(s: &[u8]) -> Request
+#[tactic(auto, using(crate::proofs::Parsing::volume_form))]
+fn volume(s: &[u8]) -> Result<Request, Refusal>
     ensures { request_as result ≡ asked_for RT s.now }
 {
-    if is_word(s, b" R") {
-        return Request::Read(Reading::Raw);
+    match s {
+        b" R" => Ok(Request::Read(Reading::Raw)),
+        b" G" | b" N" | b" P" | b" M" => Err(Refusal::NotServed),
+        _ => Err(Refusal::Malformed),
     }
-    if is_word(s, b" G") {
-        return Request::Refused(Refusal::NotServed);
-    }
-    if is_word(s, b" N") {
-        return Request::Refused(Refusal::NotServed);
-    }
-    if is_word(s, b" P") {
-        return Request::Refused(Refusal::NotServed);
-    }
-    if is_word(s, b" M") {
-        return Request::Refused(Refusal::NotServed);
-    }
-    Request::Refused(Refusal::Malformed)
 }
 
 // RE: two flags are cleared by the host, the power fail flag is not.
-fn flag_to_clear(s: &[u8]) -> Request
+#[tactic(auto, using(crate::proofs::Parsing::flag_form))]
+fn flag_to_clear(s: &[u8]) -> Result<Request, Refusal>
     ensures { request_as result ≡ asked_for RE s.now }
 {
-    if is_word(s, b" BD") {
-        return Request::Write(Writing::ClearReset);
+    match s {
+        b" BD" => Ok(Request::Write(Writing::ClearReset)),
+        b" PC" => Ok(Request::Write(Writing::ClearChanged)),
+        b" PF" => Err(Refusal::NotServed),
+        _ => Err(Refusal::Malformed),
     }
-    if is_word(s, b" PC") {
-        return Request::Write(Writing::ClearChanged);
-    }
-    if is_word(s, b" PF") {
-        return Request::Refused(Refusal::NotServed);
-    }
-    Request::Refused(Refusal::Malformed)
 }
 
 // PV, XV: a place beyond the last is not in the list.
-fn at_place(place: usize, request: Request) -> Request
-    ensures { request_as result ≡ pick (listed place) (request_as request) (refused 4) }
+fn at_place(place: usize, reading: Reading) -> Result<Request, Refusal>
+    ensures { request_as result ≡ pick (listed place) (reading_as reading) (refused 4) }
 {
     if place < PARAMETERS {
-        return request;
+        Ok(Request::Read(reading))
+    } else {
+        Err(Refusal::UnknownParameter)
     }
-    Request::Refused(Refusal::UnknownParameter)
 }
 
 // PC by place and value.
-pub fn ask_value(place: usize, value: u32) -> Request
-    ensures { request_as result ≡ asked_with PC (a_place place value) }
+#[tactic(auto, using(crate::proofs::Parsing::asking))]
+pub fn ask_value(place: usize, value: u32) -> Result<Writing, Refusal>
+    ensures { request_as (to_write result) ≡ asked_with PC (a_place place value) }
 {
     if PARAMETERS <= place {
-        return Request::Refused(Refusal::UnknownParameter);
+        return Err(Refusal::UnknownParameter);
     }
     if within(state::range_at(place), value) {
-        return Request::Write(Writing::SetValue(place, value));
+        return Ok(Writing::SetValue(place, value));
     }
-    Request::Refused(Refusal::Range)
+    Err(Refusal::Range)
 }
 
 // XC by place and level.
-fn ask_level(place: usize, level: u32) -> Request
-    ensures { request_as result ≡ asked_with XC (a_place place level) }
+#[tactic(auto, using(crate::proofs::Parsing::asking))]
+fn ask_level(place: usize, level: u32) -> Result<Writing, Refusal>
+    ensures { request_as (to_write result) ≡ asked_with XC (a_place place level) }
 {
     if PARAMETERS <= place {
-        return Request::Refused(Refusal::UnknownParameter);
+        return Err(Refusal::UnknownParameter);
     }
     if level <= LEVEL_RANGE.high {
-        return Request::Write(Writing::SetLevel(place, level as u8));
+        return Ok(Writing::SetLevel(place, level as u8));
     }
-    Request::Refused(Refusal::Range)
+    Err(Refusal::Range)
 }
 
 // NR
-fn ask_recipe(recipe: u32) -> Request
-    ensures { request_as result ≡ asked_with NR (a_place 0 recipe) }
+#[tactic(auto, using(crate::proofs::Parsing::asking))]
+fn ask_recipe(recipe: u32) -> Result<Writing, Refusal>
+    ensures { request_as (to_write result) ≡ asked_with NR (a_place 0 recipe) }
 {
     if within(RECIPE_RANGE, recipe) {
-        return Request::Write(Writing::SelectRecipe(recipe as u8));
+        return Ok(Writing::SelectRecipe(recipe as u8));
     }
-    Request::Refused(Refusal::UnknownRecipe)
+    Err(Refusal::UnknownRecipe)
 }
 
 // SB
-fn ask_batch(preset: u32) -> Request
-    ensures { request_as result ≡ asked_with SB (a_place 0 preset) }
+#[tactic(auto, using(crate::proofs::Parsing::asking))]
+fn ask_batch(preset: u32) -> Result<Writing, Refusal>
+    ensures { request_as (to_write result) ≡ asked_with SB (a_place 0 preset) }
 {
     if preset == 0 {
-        return Request::Refused(Refusal::Range);
+        return Err(Refusal::Range);
     }
-    Request::Write(Writing::SetBatch(preset))
+    Ok(Writing::SetBatch(preset))
 }
-
-// What a text asks for.
-pub fn parse(text: &[u8]) -> Request
-    ensures { request_as result ≡ asked_in text.now }
+// What a code and what stands behind it ask for.
+#[tactic(auto, using(crate::proofs::Parsing::unknown, crate::proofs::Parsing::forms))]
+fn ask(code: u32, rest: &[u8]) -> Result<Request, Refusal>
+    ensures { request_as result ≡ asked_for code rest.now }
 {
-    if text.len() < 4 {
-        return Request::Refused(Refusal::UnknownCode);
-    }
-    let code = wide(text[2]) * 256 + wide(text[3]);
-    let rest = &text[4..];
     match code {
         EQ => alone(rest, Request::Read(Reading::Status)),
         RS => alone(rest, Request::Read(Reading::Codes)),
@@ -391,40 +319,28 @@ pub fn parse(text: &[u8]) -> Request
         RC => alone(rest, Request::Read(Reading::Composition)),
         RT => volume(rest),
         PV => {
-            let Numbers::Read(place, _) = parameter_and(rest, 0, 0) else {
-                return Request::Refused(Refusal::Malformed);
-            };
-            at_place(place, Request::Read(Reading::Value(place)))
+            let (place, _) = parameter_and(rest, 0, 0)?;
+            at_place(place, Reading::Value(place))
         }
         XV => {
-            let Numbers::Read(place, _) = parameter_and(rest, 0, 0) else {
-                return Request::Refused(Refusal::Malformed);
-            };
-            at_place(place, Request::Read(Reading::Level(place)))
+            let (place, _) = parameter_and(rest, 0, 0)?;
+            at_place(place, Reading::Level(place))
         }
         PC => {
-            let Numbers::Read(place, value) = parameter_and(rest, 1, 8) else {
-                return Request::Refused(Refusal::Malformed);
-            };
-            ask_value(place, value)
+            let (place, value) = parameter_and(rest, 1, 8)?;
+            Ok(Request::Write(ask_value(place, value)?))
         }
         XC => {
-            let Numbers::Read(place, level) = parameter_and(rest, 1, 1) else {
-                return Request::Refused(Refusal::Malformed);
-            };
-            ask_level(place, level)
+            let (place, level) = parameter_and(rest, 1, 1)?;
+            Ok(Request::Write(ask_level(place, level)?))
         }
         NR => {
-            let Numbers::Read(_, recipe) = last_number(rest, 2, 2) else {
-                return Request::Refused(Refusal::Malformed);
-            };
-            ask_recipe(recipe)
+            let recipe = last_number(rest, 2, 2)?;
+            Ok(Request::Write(ask_recipe(recipe)?))
         }
         SB => {
-            let Numbers::Read(_, preset) = last_number(rest, 1, 6) else {
-                return Request::Refused(Refusal::Malformed);
-            };
-            ask_batch(preset)
+            let preset = last_number(rest, 1, 6)?;
+            Ok(Request::Write(ask_batch(preset)?))
         }
         SA => alone(rest, Request::Write(Writing::Start)),
         SP => alone(rest, Request::Write(Writing::Stop)),
@@ -432,189 +348,176 @@ pub fn parse(text: &[u8]) -> Request
         RE => flag_to_clear(rest),
         EA => alone(rest, Request::Read(Reading::Alarms)),
         AR => alone(rest, Request::Write(Writing::ResetAlarms)),
-        _ => Request::Refused(Refusal::UnknownCode),
+        _ => Err(Refusal::UnknownCode),
     }
 }
 
-// The kept batch that a text asks for: RT R and three digits. Only a controller with a bank serves it.
-pub fn batch_asked(text: &[u8]) -> BatchAsked
+// What a text asks for.
+#[tactic(auto, using(crate::proofs::Parsing::parsed_short, crate::proofs::Parsing::behind_is), unfolding(crate::specs::Request::asked_in))]
+pub fn parse(text: &[u8]) -> Result<Request, Refusal>
+    ensures { request_as result ≡ asked_in text.now }
+{
+    if text.len() < 4 {
+        return Err(Refusal::UnknownCode);
+    }
+    ask(code_in(text), &text[4..])
+}
+
+// The two letters behind the address digits, as one number.
+#[tactic(auto, unfolding(crate::specs::Commands::code_in))]
+fn code_in(text: &[u8]) -> u32
+    requires { 4 ≤ length text.now }
+    ensures { result ≡ code_in text.now }
+{
+    u32::from(text[2]) * 256 + u32::from(text[3])
+}
+
+// The kept batch that a text asks for, by its number: RT R and three digits. Only a controller with a bank serves it.
+#[tactic(auto, using(crate::proofs::Beside::batch_form))]
+pub fn batch_asked(text: &[u8]) -> Option<u32>
     ensures { result ≡ batch_in text.now }
 {
-    if text.len() != 10 {
-        return BatchAsked::Nothing;
+    if text.len() != 10 || code_in(text) != RT || !word_at(text, 4, b" R ") {
+        return None;
     }
-    if wide(text[2]) * 256 + wide(text[3]) != RT {
-        return BatchAsked::Nothing;
-    }
-    if !is_word(&text[4..7], b" R ") {
-        return BatchAsked::Nothing;
-    }
-    let Digits::Number(n) = read_number(&text[7..]) else {
-        return BatchAsked::Nothing;
-    };
-    BatchAsked::Number(n)
+    read_number(&text[7..])
 }
 
 // ---- what refuses a write by the record
 
-fn plain(keypad: bool, phases: Phases) -> Guards
+fn plain(keypad: bool, phases: Option<Phases>) -> Guards
     ensures { result ≡ plain_guards keypad phases }
 {
     Guards {
-        keypad: keypad,
-        level: false,
-        place: 0,
-        above: false,
-        phases: phases,
+        keypad,
+        level: None,
+        phases,
         alarms: false,
     }
 }
 
 // The guards of a write on a link of this access.
+#[tactic(auto, unfolding(crate::specs::Request::guards_in))]
 pub fn guards_of(access: u8, request: Writing) -> Guards
     ensures { guards_as access result ≡ guards_of access (writing_as request) }
 {
     match request {
         Writing::SetValue(place, _) => Guards {
-            keypad: true,
-            level: true,
-            place: place,
-            above: false,
-            phases: Phases::IdleOrDone,
-            alarms: false,
+            level: Some(LevelGuard {
+                place,
+                above: false,
+            }),
+            ..plain(true, Some(Phases::IdleOrDone))
         },
         Writing::SetLevel(place, level) => Guards {
-            keypad: true,
-            level: true,
-            place: place,
-            above: access < level,
-            phases: Phases::Any,
-            alarms: false,
+            level: Some(LevelGuard {
+                place,
+                above: access < level,
+            }),
+            ..plain(true, None)
         },
-        Writing::SelectRecipe(_) => plain(true, Phases::IdleOrDone),
-        Writing::SetBatch(_) => plain(true, Phases::IdleOrDone),
+        Writing::SelectRecipe(_) | Writing::SetBatch(_) => plain(true, Some(Phases::IdleOrDone)),
         Writing::Start => Guards {
-            keypad: true,
-            level: false,
-            place: 0,
-            above: false,
-            phases: Phases::SetOrStopped,
             alarms: true,
+            ..plain(true, Some(Phases::SetOrStopped))
         },
-        Writing::Stop => plain(false, Phases::Running),
-        Writing::End => plain(true, Phases::SetStoppedOrDone),
-        Writing::ClearReset => plain(true, Phases::Any),
-        Writing::ClearChanged => plain(true, Phases::Any),
-        Writing::ResetAlarms => plain(true, Phases::Any),
+        Writing::Stop => plain(false, Some(Phases::Running)),
+        Writing::End => plain(true, Some(Phases::SetStoppedOrDone)),
+        Writing::ClearReset | Writing::ClearChanged | Writing::ResetAlarms => plain(true, None),
     }
 }
 
-// The first of two decisions that refuses, or that both accept.
-fn and_then(first: Decision, second: Decision) -> Decision
-    ensures { decision_as result ≡ and_then (decision_as first) (decision_as second) }
-{
-    match first {
-        Decision::Accepted => second,
-        Decision::Refused(refusal) => Decision::Refused(refusal),
-    }
-}
-
-fn by_keypad(r: Record, tested: bool) -> Decision
+// NO02
+#[tactic(auto, using(crate::proofs::Serving::keypad_form))]
+fn by_keypad(r: Record, tested: bool) -> Result<(), Refusal>
     ensures { decision_as result ≡ guarded (keypad_guards tested) r }
 {
-    if !tested {
-        return Decision::Accepted;
+    if tested && r.keypad {
+        return Err(Refusal::Keypad);
     }
-    if r.keypad {
-        return Decision::Refused(Refusal::Keypad);
-    }
-    Decision::Accepted
+    Ok(())
 }
 
-fn by_level(r: Record, guards: Guards) -> Decision
-    ensures { decision_as result ≡ guarded (level_guards (get Field.access r) guards) r }
+// NO07
+#[tactic(auto, using(crate::proofs::Serving::level_form, crate::proofs::Serving::unguarded))]
+fn by_level(r: Record, guard: Option<LevelGuard>) -> Result<(), Refusal>
+    ensures { decision_as result ≡ guarded (level_guards (get Field.access r) guard) r }
 {
-    if !guards.level {
-        return Decision::Accepted;
+    if let Some(level) = guard
+        && (level.above || r.access < r.level_at(level.place))
+    {
+        return Err(Refusal::Level);
     }
-    if guards.above {
-        return Decision::Refused(Refusal::Level);
-    }
-    if r.access < r.level_at(guards.place) {
-        return Decision::Refused(Refusal::Level);
-    }
-    Decision::Accepted
+    Ok(())
 }
 
-fn in_phases(phase: u8, phases: &[u8]) -> Decision
-    ensures { decision_as result ≡ pick (member phase phases.now) accepted (NO 5) }
+// NO05
+#[tactic(auto, using(crate::proofs::Serving::phase_form, crate::proofs::Serving::unguarded))]
+fn by_phase(r: Record, guard: Option<Phases>) -> Result<(), Refusal>
+    ensures { decision_as result ≡ guarded (phase_guards guard) r }
 {
-    if is_among(phase, phases) {
-        return Decision::Accepted;
+    let Some(phases) = guard else {
+        return Ok(());
+    };
+    let right = match phases {
+        Phases::IdleOrDone => matches!(r.phase, Phase::Idle | Phase::Done),
+        Phases::SetOrStopped => matches!(r.phase, Phase::Set | Phase::Stopped),
+        Phases::Running => r.phase == Phase::Running,
+        Phases::SetStoppedOrDone => matches!(r.phase, Phase::Set | Phase::Stopped | Phase::Done),
+    };
+    if !right {
+        return Err(Refusal::Phase);
     }
-    Decision::Refused(Refusal::Phase)
+    Ok(())
 }
 
-fn by_phase(r: Record, phases: Phases) -> Decision
-    ensures { decision_as result ≡ guarded (phase_guards phases) r }
-{
-    let phase = r.phase;
-    let held = state::phase_number(phase);
-    match phases {
-        Phases::Any => Decision::Accepted,
-        Phases::IdleOrDone => in_phases(held, &[IDLE, DONE]),
-        Phases::SetOrStopped => in_phases(held, &[SET, STOPPED]),
-        Phases::Running => in_phases(held, &[RUNNING]),
-        Phases::SetStoppedOrDone => in_phases(held, &[SET, STOPPED, DONE]),
-    }
-}
-
-fn by_alarms(r: Record, tested: bool) -> Decision
+// NO09
+#[tactic(auto, using(crate::proofs::Serving::alarm_form))]
+fn by_alarms(r: Record, tested: bool) -> Result<(), Refusal>
     ensures { decision_as result ≡ guarded (alarm_guards tested) r }
 {
-    if !tested {
-        return Decision::Accepted;
+    if tested && r.alarms != 0 {
+        return Err(Refusal::Alarm);
     }
-    if r.alarms != 0 {
-        return Decision::Refused(Refusal::Alarm);
-    }
-    Decision::Accepted
+    Ok(())
 }
 
-// NO02, NO07, NO05, NO09.
-fn by_record(r: Record, guards: Guards) -> Decision
+// The first that refuses.
+#[tactic(auto, using(crate::proofs::Serving::guards_then))]
+fn by_record(r: Record, guards: Guards) -> Result<(), Refusal>
     ensures { decision_as result ≡ guarded (guards_as (get Field.access r) guards) r }
 {
-    let phases = guards.phases;
-    let from_phase = and_then(by_phase(r, phases), by_alarms(r, guards.alarms));
-    let from_level = and_then(by_level(r, guards), from_phase);
-    and_then(by_keypad(r, guards.keypad), from_level)
+    by_keypad(r, guards.keypad)?;
+    by_level(r, guards.level)?;
+    by_phase(r, guards.phases)?;
+    by_alarms(r, guards.alarms)
 }
 
 // ---- what an accepted write changes
 
+#[tactic(auto, using(crate::proofs::Serving::storing))]
 fn with_value(mut r: Record, place: usize, value: u32) -> Record
     ensures { result ≡ applied (changes_of (writing_as (Writing.SetValue place value))) r }
 {
     // Switched on exactly if the value differs from the one held; else the flag stays.
-    r.changed = r.changed | (r.value_at(place) != value);
+    r.changed |= r.value_at(place) != value;
     if place < PARAMETERS {
         r.values[place] = value;
-        return r;
     }
     r
 }
 
+#[tactic(auto, using(crate::proofs::Serving::storing))]
 fn with_level(mut r: Record, place: usize, level: u8) -> Record
     ensures { result ≡ put (Field.level place) level r }
 {
     if place < PARAMETERS {
         r.levels[place] = level;
-        return r;
     }
     r
 }
 
+#[tactic(auto, using(crate::proofs::Serving::applied_as), unfolding(crate::specs::Commands::applied, crate::specs::Commands::row_of, state::specs::Field::put, state::specs::Event::batch_set, text::specs::Word::equal))]
 pub fn apply(mut r: Record, request: Writing) -> Record
     ensures { result ≡ applied (changes_of (writing_as request)) r }
 {
@@ -641,75 +544,60 @@ pub fn apply(mut r: Record, request: Writing) -> Record
     }
 }
 
-// ---- a request served: the answer, and the effect that the record has still to take
+// ---- a request served
+
+// An answer, and what the record has still to take: a write that is accepted.
 #[derive(Clone, Copy)]
-pub enum Effect {
-    Nothing,
-    Write(Writing),
+pub struct Served<A> {
+    pub answer: A,
+    pub effect: Option<Writing>,
 }
 
-#[derive(Clone, Copy)]
-pub struct Served {
-    pub answer: Answer,
-    pub effect: Effect,
-}
-
-fn serve_write(r: Record, request: Writing) -> Served
-    ensures { (answer_as result.answer, effect_as result.effect r) ≡ served_of (writing_as request) r }
+// A write, if the record does not refuse it.
+#[tactic(auto, using(crate::proofs::Serving::write_form))]
+fn serve_write(r: Record, request: Writing) -> Result<Writing, Refusal>
+    ensures { served_as (to_write result) r ≡ served_of (writing_as request) r }
 {
-    match by_record(r, guards_of(r.access, request)) {
-        Decision::Accepted => Served {
-            answer: Answer::Ok,
-            effect: Effect::Write(request),
-        },
-        Decision::Refused(refusal) => Served {
-            answer: Answer::No(refusal),
-            effect: Effect::Nothing,
-        },
+    by_record(r, guards_of(r.access, request))?;
+    Ok(request)
+}
+
+// PC by place and value. Not by `serve`: with a caller more the compiler no longer lays `serve` into its first one, and every request
+// of the Smith link then copies the record once more (80 instructions).
+#[tactic(auto, using(crate::proofs::Serving::refusal_served))]
+pub fn serve_value(r: Record, place: usize, value: u32) -> Result<Writing, Refusal>
+    ensures { served_as (to_write result) r ≡ served_of (asked_with PC (a_place place value)) r }
+{
+    serve_write(r, ask_value(place, value)?)
+}
+
+// Any request, if neither its text nor the record refuses it.
+#[tactic(auto, using(crate::proofs::Serving::reading_served, crate::proofs::Serving::refusal_served))]
+pub fn serve(r: Record, request: Result<Request, Refusal>) -> Result<Request, Refusal>
+    ensures { served_as result r ≡ served_of (request_as request) r }
+{
+    match request? {
+        Request::Read(reading) => Ok(Request::Read(reading)),
+        Request::Write(writing) => Ok(Request::Write(serve_write(r, writing)?)),
     }
 }
 
-// PC by place and value. It is `serve` of `ask_value`, written out: with a caller more the compiler no longer lays `serve` into its
-// first one, and every request of the Smith link then copies the record once more (80 instructions).
-pub fn serve_value(r: Record, place: usize, value: u32) -> Served
-    ensures { (answer_as result.answer, effect_as result.effect r) ≡ served_of (asked_with PC (a_place place value)) r }
+// What the record has still to take of it: a refusal and a read have no effect.
+pub fn effect_of(served: Result<Request, Refusal>) -> Option<Writing>
+    ensures { result ≡ effect_of served }
 {
-    match ask_value(place, value) {
-        Request::Refused(refusal) => Served {
-            answer: Answer::No(refusal),
-            effect: Effect::Nothing,
-        },
-        Request::Read(reading) => Served {
-            answer: Answer::Shows(reading),
-            effect: Effect::Nothing,
-        },
-        Request::Write(_) => serve_write(r, Writing::SetValue(place, value)),
-    }
-}
-
-// Any request. A refusal and a read have no effect.
-pub fn serve(r: Record, request: Request) -> Served
-    ensures { (answer_as result.answer, effect_as result.effect r) ≡ served_of (request_as request) r }
-{
-    match request {
-        Request::Refused(refusal) => Served {
-            answer: Answer::No(refusal),
-            effect: Effect::Nothing,
-        },
-        Request::Read(reading) => Served {
-            answer: Answer::Shows(reading),
-            effect: Effect::Nothing,
-        },
-        Request::Write(writing) => serve_write(r, writing),
+    match served {
+        Ok(Request::Write(writing)) => Some(writing),
+        _ => None,
     }
 }
 
 // The record afterwards.
-pub fn carry_out(r: Record, effect: Effect) -> Record
+pub fn carry_out(r: Record, effect: Option<Writing>) -> Record
     ensures { result ≡ effect_as effect r }
 {
     match effect {
-        Effect::Nothing => r,
-        Effect::Write(request) => apply(r, request),
+        None => r,
+        Some(writing) => apply(r, writing),
     }
 }

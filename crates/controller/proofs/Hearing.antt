@@ -1,25 +1,20 @@
 -- What is heard of a frame before its text is looked at, over any answer: a call is what the frame's reader tells, and what `hear` tells, of
 -- it. One law for each return of `hear`. Assumes nothing.
-use Prim.Native.Nat.{ℕ, ◌+◌, ◌-◌, ◌≤◌, ◌<◌}
-use mathlib.Core.Bool.{Bool, true, false, not}
+use Prim.Native.Nat.{ℕ, ◌+◌, ◌-◌, ◌≤◌}
+use mathlib.Core.Bool.{Bool, true, false}
 use mathlib.Core.Path.{◌≡◌, refl, sym, ap, ◌∙◌}
 use mathlib.Core.List.{List}
 use native.Mathlib.Omega.{arith}
 use lib.Dec.{eqb, leb}
 use lib.ListN.{length, take, drop}
-use borrow.Author.Tests.{le-leb, lt-leb, leb-true, eq-eqb, ne_eqb, eqb-true, not-true, not-false}
+use borrow.Author.Tests.{le-leb, leb-true, eqb-true}
 use Rattle.base.specs.Test.{unless}
-use Rattle.base.proofs.Tests.{never}
+use Rattle.base.proofs.Tests.{never, by_test}
 use Rattle.frame.specs.declared.Kind.{Kind}
-use Rattle.frame.specs.declared.Silence.{Silence}
-use Rattle.frame.specs.declared.Addressed.{Addressed}
-use Rattle.frame.specs.declared.Addressed.TheVariants as addressee
 use Rattle.frame.specs.Frame.{all_text, names_unit, address_in, text_in, within_limits, marks_right, check_right}
-use Rattle.frame.specs.Numbers.{Answer, H, S, accepted, unit, silence_number, addressed_as}
+use Rattle.frame.specs.Numbers.{Answer, H, S, accepted, unit}
 use Rattle.frame.specs.Answer.{locate_of, addressed, address_of}
 use Rattle.frame.proofs.Laws.{Sizes, Named, named, found_text, found_sizes}
-use Rattle.controller.specs.declared.Heard.{Heard}
-use Rattle.controller.specs.declared.Heard.TheVariants as heard
 use Rattle.controller.specs.Call.{unless_silent, Hearing, text, hearing_of, heard_as}
 use Rattle.controller.specs.Call as call
 
@@ -72,39 +67,21 @@ module _ {A : Type 0} (quiet : ℕ → A) (k : Kind) (a : ℕ) (q : List ℕ) (r
       go true true true true true true true false = refl
       go true true true true true true true true = refl
 
--- ---- the returns of `hear`
-module _ (k : Kind) (good : Bool) (a : ℕ) (q : List ℕ) (room : ℕ) where
-  pub heard_invalid : not good ≡ true → call.S 1 ≡ hearing_of k good a q room
-  unfolding hearing_of
-  heard_invalid e = simp (not-true good e)
+-- ---- the steps of `hear`
+pub hearing_form : (k : Kind) (good : Bool) (a : ℕ) (q : List ℕ) (room : ℕ)
+    → hearing_of k good a q room ≡ unless good (call.S 1) (unless (leb 64 room) (call.S 2) (told_by call.S k a q (call.text (length (text_in k q))) (address_of k q)))
+unfolding hearing_of
+hearing_form k false a q room = refl
+hearing_form k true a q room =
+    by_test (leb 64 room)
+    (λ h.
+    let by_reader_so : hearing_of k true a q room ≡ told_by call.S k a q (call.text (length (text_in k q))) (address_of k q) =
+    by_reader_lem call.S k a q (call.text (length (text_in k q))) room (leb-true 64 room h) in
+    simp h (simp h at by_reader_so))
+    (λ h. simp h)
 
-  module _ (e : not good ≡ false) where
-    pub heard-short : room < 64 → call.S 2 ≡ hearing_of k good a q room
-    unfolding hearing_of
-    heard-short l = simp (not-false good e, lt-leb 64 room l)
-
-    module _ (l : 64 ≤ room) (r : Addressed) (z : addressed_as r ≡ address_of k q) where
-      read : (x : Addressed) → r ≡ x → hearing_of k good a q room ≡ told_by call.S k a q (call.text (length (text_in k q))) (addressed_as x)
-      unfolding hearing_of
-      read x i =
-          ap (λ (b : Bool). unless_silent call.S k b a q room (call.text (length (text_in k q)))) (not-false good e)
-          ∙ (by_reader_lem call.S k a q (call.text (length (text_in k q))) room l
-          ∙ ap (told_by call.S k a q (call.text (length (text_in k q)))) (sym z ∙ ap addressed_as i))
-
-      pub heard-frame : (s : Silence) → r ≡ addressee.Silent s → call.S (silence_number s) ≡ hearing_of k good a q room
-      heard-frame s i = sym (read (addressee.Silent s) i)
-
-      module _ (d n : ℕ) (i : r ≡ addressee.Unit d n) where
-        pub heard_other : (d ≡ a → ⊥) → call.S 8 ≡ hearing_of k good a q room
-        heard_other f = sym (read (addressee.Unit d n) i ∙ simp (ne_eqb d a f))
-
-        size : length (text_in k q) ≡ n
-        size = (named k q d n (sym z ∙ ap addressed_as i)).text.size
-
-        pub heard-text : d ≡ a → call.text n ≡ hearing_of k good a q room
-        heard-text f = sym (read (addressee.Unit d n) i ∙ (simp (eq-eqb d a f) (ap call.text size)))
-
-pub ruleset hearings = (heard_invalid, heard-short, heard-frame, heard_other, heard-text)
+pub text_size : (k : Kind) (q : List ℕ) (d n : ℕ) → unit d n ≡ address_of k q → length (text_in k q) ≡ n
+text_size k q d n e = (named k q d n (sym e)).text.size
 
 -- ---- what a text that is heard tells
 pub record Told (k : Kind) (good : Bool) (a : ℕ) (q : List ℕ) (room n : ℕ) : Type 0 where
@@ -134,13 +111,13 @@ told_of k good a q room n e =
       for_unit = record { text = record { limits = c₃; marks = c₄; sum = c₅; text = c₆; size = size }; code = c₇; number = eqb-true _ _ c₈ };
     }
 
-module _ (k : Kind) (good : Bool) (a : ℕ) (q : List ℕ) (room n : ℕ) (h : Heard) (heard_so : heard_as h ≡ hearing_of k good a q room) (is-text : h ≡ heard.Text n) where
+module _ (k : Kind) (good : Bool) (a : ℕ) (q : List ℕ) (room n : ℕ) (is_text : call.text n ≡ hearing_of k good a q room) where
   pub told : Told k good a q room n
-  told = told_of k good a q room n (sym heard_so ∙ ap heard_as is-text)
+  told = told_of k good a q room n (sym is_text)
 
   -- the text lies within the request, and is the one that is asked by
-  pub text-within : Sizes q n
-  text-within = found_sizes k q n told.for_unit.text
+  pub text_within : Sizes q n
+  text_within = found_sizes k q n told.for_unit.text
 
   pub text_there : take (n + 1 - 1) (drop 1 q) ≡ text_in k q
   text_there =

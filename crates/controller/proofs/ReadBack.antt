@@ -12,7 +12,7 @@ use borrow.Author.Tests.{le-leb, eq-eqb, ne_eqb, lt-ltb, le-ltb}
 use Rattle.base.specs.Text.{text}
 use Rattle.base.specs.Test.{pick, all_between}
 use Rattle.state.specs.declared.Record.{Record}
-use Rattle.state.specs.declared.Place.TheVariants.{At}
+use Rattle.std.specs.Prelude.{Some}
 use Rattle.state.specs.Parameter.{recipes, parameter_count, place_of, range_at}
 use Rattle.state.specs.Field.{Field, address, access, phase, keypad, changed, recipe, preset, raw, number, alarms, value, level, get, put, position, field_range, off}
 use Rattle.state.specs.Valid.{within, valid}
@@ -39,7 +39,7 @@ use Rattle.controller.specs.Call.{silent, replied, unless_silent, call_of}
 use Rattle.controller.proofs.Steps.{text_by_steps}
 
 -- ---- a code that has a place has three digits
-pub code_small : (c i : ℕ) → place_of c ≡ At i → c < 1000
+pub code_small : (c i : ℕ) → place_of c ≡ Some i → c < 1000
 code_small c i e =
     let h = code_has_place c i e in
     let l : i < parameter_count = h.0 in
@@ -59,7 +59,7 @@ module _ (n : ℕ) where
   unfolding asked_in asked_for asked_with first_by_text first_by_arguments row_of code_in formed digits equal
   raw-asked = refl
 
-  module _ (p i : ℕ) (e : place_of p ≡ At i) where
+  module _ (p i : ℕ) (e : place_of p ≡ Some i) where
     placed : place_for (value_of (digits 3 p)) ≡ i
     placed = ap place_for (value-digits 3 p (code_small p i e)) ∙ ap place_number e
 
@@ -206,7 +206,7 @@ module _ (k : Kind) (s : Record) (o : List ℕ) (v : valid s ≡ true) (room : 6
         served_so 0x4e 0x52 (space ∷ digits 2 r) NR (a_place 0 r) refl refl (behind_two 0x4e 0x52 2 r (omega arith) refl)
         (recipe-asked s.address r w) (simp (keypad_off, in_idle))
 
-    pub value_served : (p i v : ℕ) → place_of p ≡ At i → v < 10 ^ 8 → within (range_at i) v ≡ true → get (level i) s ≤ get access s
+    pub value_served : (p i v : ℕ) → place_of p ≡ Some i → v < 10 ^ 8 → within (range_at i) v ≡ true → get (level i) s ≤ get access s
         → LeavesAt k s o (get address s) (text "PC " ++ (digits 3 p ++ (space ∷ digits 8 v))) (text "OK") (replaced (value i) v changed s)
     unfolding guards_in guarded applied row_of all_between
     value_served p i v e h w l =
@@ -227,7 +227,7 @@ module _ (k : Kind) (s : Record) (o : List ℕ) (v : valid s ≡ true) (room : 6
       answers 0x52 0x54 (0x20 ∷ 0x52 ∷ []) RT (a_word (text "R")) refl refl (text_wider 4 4 2 58 t (omega arith) (omega arith) (text-word t refl))
       (raw-asked s.address) refl refl
 
-  module _ (p i : ℕ) (e : place_of p ≡ At i) where
+  module _ (p i : ℕ) (e : place_of p ≡ Some i) where
     -- the label has the code that was asked for
     label_so : (w : List ℕ) → parameter_label w i ≡ w ++ (digits 3 p ++ (space ∷ []))
     label_so w = ap (λ (c : ℕ). w ++ (digits 3 c ++ (space ∷ []))) (code_has_place p i e).1

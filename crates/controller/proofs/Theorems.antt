@@ -10,8 +10,7 @@ use lib.ListN.{length, take, drop, get_or}
 use borrow.Author.Tests.{leb-true}
 use Rattle.base.specs.Text.{text}
 use Rattle.state.specs.declared.Record.{Record}
-use Rattle.state.specs.declared.Place.{Place}
-use Rattle.state.specs.declared.Place.TheVariants.{At, Nothing}
+use Rattle.std.specs.Prelude.{Option, Some, None}
 use Rattle.base.specs.Test.{pick}
 use Rattle.state.specs.Parameter.{parameter_count, place_of}
 use Rattle.state.specs.Alarm.{lasting}
@@ -331,15 +330,15 @@ module _ (k k' : Kind) (r : Record) (q o o' : List ℕ) (heard : (call_of k r q 
 
   -- ---- PC and XC name a parameter
   named_so : (d : ℕ) → code_in written ≡ d → (arguments_for d (behind_code written)).place ≡ place_for parameter → of (PV ∷ XV ∷ PC ∷ XC ∷ []) d ≡ true
-      → place_of parameter ≡ At x.place
+      → place_of parameter ≡ Some x.place
   named_so d c e o = go (place_of parameter) refl
     where
       here : x.place ≡ place_for parameter
       here = ap (λ (y : ℕ). (arguments_for y (behind_code written)).place) c ∙ e
 
-      go : (p : Place) → place_of parameter ≡ p → p ≡ At x.place
-      go (At i) h = ap At (sym (here ∙ ap place_number h))
-      go Nothing h =
+      go : (p : Option ℕ) → place_of parameter ≡ p → p ≡ Some x.place
+      go (Some i) h = ap Some (sym (here ∙ ap place_number h))
+      go None h =
           let z : x.place ≡ parameter_count = here ∙ ap place_number h in
           let l = sound.placed (ap (of (PV ∷ XV ∷ PC ∷ XC ∷ [])) c ∙ o) in
           absurd (omega arith)

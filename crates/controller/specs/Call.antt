@@ -1,5 +1,5 @@
 -- Document 01, "Frames" and "Commands": one call of the controller.
-use Rattle.std.specs.Prelude.{ℕ, Bool, List, eqb, leb, length, take}
+use Rattle.std.specs.Prelude.{◌≡◌, refl, ℕ, Bool, Option, None, Result, Ok, Err, List, eqb, leb, length, take}
 use Rattle.state.specs.declared.Record.{Record}
 use Rattle.state.specs.Field.{address, get}
 use Rattle.state.specs.Valid.{valid}
@@ -9,12 +9,9 @@ use Rattle.frame.specs.Numbers.{silence_number}
 use Rattle.base.specs.Test.{unless}
 use Rattle.base.specs.Lists.{over}
 use Rattle.command.specs.Answer.{reply_text, record_after}
+use Rattle.command.specs.declared.Writing.{Writing}
+use Rattle.command.specs.Request.{effect_as}
 use Rattle.frame.specs.declared.Silence.{Silence}
-use Rattle.controller.specs.declared.Called.{Called}
-use Rattle.controller.specs.declared.Answer.{Answer}
-use Rattle.controller.specs.declared.Answer.TheVariants as answer
-use Rattle.controller.specs.declared.Heard.{Heard}
-use Rattle.controller.specs.declared.Heard.TheVariants as heard
 
 -- what a call leaves: the number of the silence, 0 if there is a reply; the reported length; what is held, which is the record, alone or
 -- with a bank beside it (02, L7); the reply buffer
@@ -75,21 +72,39 @@ pub data Hearing : Type 0 where
 unfoldable pub hearing_of : Kind → Bool → ℕ → List ℕ → ℕ → Hearing
 hearing_of k good a q room = unless_silent S k good a q room (text (length (text_in k q)))
 
-abbrev pub heard_as : Heard → Hearing
-heard_as (heard.Silent s) = S (silence_number s)
-heard_as (heard.Text n) = text n
+abbrev pub heard_as : Result ℕ Silence → Hearing
+heard_as (Err s) = S (silence_number s)
+heard_as (Ok n) = text n
 
 -- ---- the code's answer as document 01 numbers it: a silence's number and length 0, or no silence and the reply's length
-abbrev pub answer_silence : Answer → ℕ
-answer_silence (answer.Silent s) = silence_number s
-answer_silence (answer.Reply n) = 0
+abbrev pub answer_silence : Result ℕ Silence → ℕ
+answer_silence (Err s) = silence_number s
+answer_silence (Ok n) = 0
 
-abbrev pub answer_length : Answer → ℕ
-answer_length (answer.Silent s) = 0
-answer_length (answer.Reply n) = n
+abbrev pub answer_length : Result ℕ Silence → ℕ
+answer_length (Err s) = 0
+answer_length (Ok n) = n
 
-abbrev pub outcome_as : {S : Type 0} → Answer → S → List ℕ → OutcomeOf S
+abbrev pub outcome_as : {S : Type 0} → Result ℕ Silence → S → List ℕ → OutcomeOf S
 outcome_as a r o = record { silence = answer_silence a; reported = answer_length a; after = r; buffer = o }
 
-abbrev pub silent_as : Silence → Record → Called
-silent_as s r = record { answer = answer.Silent s; after = r }
+-- ---- of whatever a unit holds: `valid` if all of it is; the address of the unit; the text of the reply to a text, and what is held then; and
+-- what an effect leaves
+module _ {S : Type 0} (valid : S → Bool) (address : S → ℕ) (reply_text : List ℕ → S → List ℕ) (held_after : List ℕ → S → S) (changed : Option Writing → S → S) where
+  -- how the reply to a text and a whole call are defined
+  pub record HeldLaws (replied called : Kind → S → List ℕ → List ℕ → OutcomeOf S) : Type 0 where
+    -- S2, or the reply
+    pub reply : (k : Kind) (s : S) (t o : List ℕ) → replied k s t o ≡ unless (leb 64 (length o)) (silent 2 s o) (answered k (reply_text t s) (held_after t s) o)
+    -- "Silences, in this order", and then the reply
+    pub call : (k : Kind) (s : S) (q o : List ℕ)
+        → called k s q o
+        ≡ unless_silent (λ n. silent n s o) k (valid s) (address s) q (length o) (answered k (reply_text (text_in k q) s) (held_after (text_in k q) s) o)
+    -- no effect leaves it as it was
+    pub unchanged : (s : S) → changed None s ≡ s
+
+abbrev pub address_of : Record → ℕ
+address_of r = get address r
+
+pub record_laws : HeldLaws valid address_of reply_text record_after effect_as reply_of call_of
+unfolding reply_of call_of
+record_laws = record { reply = λ k r t o. refl; call = λ k r q o. refl; unchanged = λ r. refl }

@@ -1,6 +1,6 @@
 -- Document 02, L9, "the standard's CRC": MODBUS over Serial Line, specification and implementation guide V1.02, section 6.2.2, "CRC
 -- Generation". Its steps, bit by bit, each beside what renders it; and a frame that ends with its check.
-use Rattle.std.specs.Prelude.{ℕ, zero, suc, ◌+◌, ◌-◌, ◌/◌, ◌%◌, Bool, ◌&&◌, List, [], ◌∷◌, ◌++◌, eqb, leb, length, take, get_or}
+use Rattle.std.specs.Prelude.{ℕ, zero, suc, ◌+◌, ◌-◌, ◌/◌, ◌%◌, Bool, ◌&&◌, List, [], ◌∷◌, ◌++◌, eqb, leb, length, take, get_or, Option, Some, None}
 use Rattle.std.specs.Int.Bits.{bit_xor}
 use Rattle.base.specs.Test.{pick}
 use Rattle.base.specs.Lists.{over}
@@ -49,6 +49,6 @@ crc_right f =
     leb 2 (length f)
     && (eqb (get_or f (length f - 2) 0) (crc_of (body_in f) % 256) && eqb (get_or f (length f - 2 + 1) 0) (crc_of (body_in f) / 256))
 
--- the check laid behind the first n bytes of a buffer, with the length up to its end; without room 0, and the buffer as it was
-unfoldable pub seal_of : ℕ → List ℕ → ℕ × List ℕ
-seal_of n o = pick (leb (n + 2) (length o)) (n + 2, over (sealed (take n o)) o) (0, o)
+-- the check laid behind the first n bytes of a buffer, with the length up to its end; without room none, and the buffer as it was
+unfoldable pub seal_of : ℕ → List ℕ → Option ℕ × List ℕ
+seal_of n o = pick (leb (n + 2) (length o)) (Some (n + 2), over (sealed (take n o)) o) (None, o)

@@ -8,6 +8,7 @@ ghost use Rattle.crc.specs.Crc.{shifted, shifted_times, crc_of, crc_right, seal_
 const POLYNOMIAL: u16 = 0xa001;
 
 // One shift of the register.
+#[tactic(auto, using(crate::proofs::Steps::shift_odd, crate::proofs::Steps::shift_even))]
 fn shifted(register: u16) -> u16
     ensures { result ≡ shifted register }
 {
@@ -19,66 +20,47 @@ fn shifted(register: u16) -> u16
 
 // Eight shifts. They stand as the standard has them: the compiler makes a look-up in a table of this loop, which was measured to
 // be faster than a table here.
+#[tactic(auto, using(crate::proofs::Steps::shift_again, crate::proofs::Steps::shift_done))]
 fn eight_shifts(register: u16) -> u16
     ensures { result ≡ shifted_times 8 register }
 {
     let mut shifting = register;
-    let mut i: usize = 0;
-    while i < 8 {
+    for _ in 0..u8::BITS {
         shifting = shifted(shifting);
-        i += 1;
     }
     shifting
-}
-
-fn wide(x: u8) -> u16
-    ensures { result ≡ x }
-{
-    x as u16
 }
 
 // The check of the bytes.
 pub fn check(s: &[u8]) -> u16
     ensures { result ≡ crc_of s.now }
 {
-    let mut register: u16 = 0xffff;
-    let mut i = 0;
-    while i < s.len() {
-        register = eight_shifts(register ^ wide(s[i]));
-        i += 1;
-    }
-    register
+    s.iter().fold(
+        0xffff,
+        |register, byte| eight_shifts(register ^ u16::from(*byte)),
+    )
 }
 
 // The last two bytes are the check of those before them, low byte first.
+#[tactic(auto, using(crate::proofs::Steps::right_short, crate::proofs::Steps::right_long))]
 pub fn is_right(frame: &[u8]) -> bool
     ensures { result ≡ crc_right frame.now }
 {
-    let n = frame.len();
-    if n < 2 {
+    let [body @ .., low, high] = frame else {
         return false;
-    }
-    let end = n - 2;
-    let sum = check(&frame[..end]);
-    if frame[end] != (sum % 256) as u8 {
-        return false;
-    }
-    frame[end + 1] == (sum / 256) as u8
+    };
+    [*low, *high] == check(body).to_le_bytes()
 }
 
-// Lays the check of the first n bytes behind them, and gives the length with it. Without room for it nothing is laid, and the
-// length is 0.
-pub fn seal(n: usize, out: &mut [u8]) -> usize
+// Lays the check of the first n bytes behind them, and gives the length with it. Without room for it nothing is laid.
+#[tactic(auto, using(crate::proofs::Steps::seal_short, crate::proofs::Steps::seal_laid))]
+pub fn seal(n: usize, out: &mut [u8]) -> Option<usize>
     ensures { (result, out.new) ≡ seal_of n out.old }
 {
-    if out.len() < 2 {
-        return 0;
-    }
-    if out.len() - 2 < n {
-        return 0;
+    if out.len() < 2 || out.len() - 2 < n {
+        return None;
     }
     let sum = check(&out[..n]);
-    out[n] = (sum % 256) as u8;
-    out[n + 1] = (sum / 256) as u8;
-    n + 2
+    out[n..n + 2].copy_from_slice(&sum.to_le_bytes());
+    Some(n + 2)
 }

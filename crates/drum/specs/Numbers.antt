@@ -1,30 +1,31 @@
 -- What the code's own values say in the words of Drum.antt.
-use Rattle.std.specs.Prelude.{ℕ, ◌≤◌, List, [], ◌∷◌, ◌++◌, eqb}
-use Rattle.base.specs.Test.{pick}
-use Rattle.drum.specs.declared.Message.{Message}
+use Rattle.std.specs.Prelude.{ℕ, Option, Some, None, Result, Ok, Err, List, [], ◌++◌}
+use Rattle.drum.specs.declared.message.Number.{Number}
+use Rattle.drum.specs.declared.message.Message.{Message}
+use Rattle.drum.specs.declared.Step.{Step}
+use Rattle.drum.specs.declared.Step.TheVariants as step
 use Rattle.drum.specs.declared.Refusal.{Refusal}
 use Rattle.drum.specs.declared.Refusal.TheVariants as refusal
-use Rattle.drum.specs.declared.Picks.{Picks}
-use Rattle.drum.specs.declared.Picks.TheVariants as picks
 use Rattle.drum.specs.declared.Answer.{Answer}
 use Rattle.drum.specs.declared.Answer.TheVariants as answer
 use Rattle.drum.specs.declared.Handled.{Handled}
 use Rattle.drum.specs.Drum.{number, Checked, out, good, Told, Q, short, request, end, stop, Outcome, tells}
 
--- a number behind a space; no digits, no number
-unfoldable pub number_text : ℕ → ℕ → List ℕ
-number_text width n = pick (eqb width 0) [] (number width n)
+-- a number behind a space
+abbrev pub number_text : Option Number → List ℕ
+number_text None = []
+number_text (Some n) = number n.width n.value
 
-unfoldable pub message_text : Message → List ℕ
-message_text m = (m.letter ∷ m.letter2 ∷ []) ++ (number_text m.width m.number ++ number_text m.width2 m.number2)
+abbrev pub message_text : Message → List ℕ
+message_text m = m.letters ++ (number_text m.first ++ number_text m.second)
 
--- its numbers have eight digits at most
-pub record Narrow (m : Message) : Type 0 where
-  pub first : m.width ≤ 8
-  pub second : m.width2 ≤ 8
-
-abbrev pub message_of : ℕ → ℕ → ℕ → ℕ → ℕ → ℕ → Message
-message_of c d w n w' n' = record { letter = c; letter2 = d; width = w; number = n; width2 = w'; number2 = n' }
+-- step i, counted from 1
+abbrev pub step_number : Step → ℕ
+step_number step.Recipe = 1
+step_number step.Factor = 2
+step_number step.Value = 3
+step_number step.Composition = 4
+step_number step.Batch = 5
 
 abbrev pub refusal_number : Refusal → ℕ
 refusal_number refusal.Address = 0
@@ -33,9 +34,9 @@ refusal_number refusal.Factor = 2
 refusal_number refusal.Preset = 3
 refusal_number refusal.NotAwaited = 4
 
-abbrev pub checked_as : Picks → Checked
-checked_as picks.Good = good
-checked_as (picks.Out w) = out (refusal_number w)
+abbrev pub checked_as : Result (Unit {0}) Refusal → Checked
+checked_as (Ok _) = good
+checked_as (Err w) = out (refusal_number w)
 
 abbrev pub told_as : Answer → Told
 told_as (answer.Refused w) = Q (refusal_number w)

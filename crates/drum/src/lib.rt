@@ -2,32 +2,36 @@
 // the unit has shown that it holds the picked recipe and factor.
 #![tactic(auto)]
 
-ghost use Rattle.std.specs.Prelude.{◌≡◌, ◌++◌, ◌+◌, ◌≤◌, length};
+ghost use Rattle.std.specs.Prelude.{◌≡◌, ◌++◌, ◌+◌, ◌≤◌, true, false, length, MatchOption, MatchResult};
 ghost use Rattle.base.specs.Lists.{over_at};
 ghost use Rattle.text.specs.Word.{digits, equal};
 ghost use Rattle.frame.specs.declared.Kind.TheVariants.{Minicomputer};
 ghost use Rattle.frame.specs.Numbers.{built_as};
 ghost use Rattle.frame.specs.Answer.{build_of};
-ghost use Rattle.drum.specs.Drum.{asks, wants, reply_frame, checked, awaits, at_step, hands_out, picked, begin_of, take_of};
-ghost use Rattle.drum.specs.Numbers.{number_text, message_text, message_of, Narrow, refusal_number, checked_as, outcome_as};
+ghost use Rattle.drum.specs.Drum.{factor_code, asks, wants, reply_frame, checked, is_step, awaits, at_step, hands_out, picked, begin_of, take_of};
+ghost use Rattle.drum.specs.Numbers.{number_text, message_text, step_number, refusal_number, checked_as, outcome_as};
 
-use base::wide;
-use frame::{Built, Kind, LONGEST_TEXT, ROOM};
+mod message;
+
+use frame::{BuildRefusal, Kind, LONGEST_TEXT, ROOM};
+use message::{Message, Number};
 use state::{ADDRESS_RANGE, FACTOR_RANGE, PRESET_RANGE, RECIPE_RANGE, Range, within};
-use text::{is_word, put_digits, put_word};
+use text::{put_digits, put_word};
 
 // What the foreman picked, and how far the change is.
-#[derive(Clone, Copy)]
+#[derive(Clone, Copy, PartialEq, Eq)]
 pub struct Change {
     pub address: u8,
     pub recipe: u8,
     pub factor: u32,
     pub preset: u32,
+    // A number, since C holds it in the last byte of the state.
     // 1 to 5: the reply to NR, PC, PV, RC, SB is awaited; 6: ended; 11 to 15: stopped at step 1 to 5; 0: refused at the beginning.
     pub step: u8,
 }
 
-#[derive(Clone, Copy)]
+// Why a change refuses picks or a reply.
+#[derive(Clone, Copy, PartialEq, Eq)]
 pub enum Refusal {
     // Q0
     Address,
@@ -42,20 +46,22 @@ pub enum Refusal {
 }
 
 // Its number in document 02.
-pub fn number_of(refusal: Refusal) -> u8
-    ensures { result ≡ refusal_number refusal }
-{
-    match refusal {
-        Refusal::Address => 0,
-        Refusal::Recipe => 1,
-        Refusal::Factor => 2,
-        Refusal::Preset => 3,
-        Refusal::NotAwaited => 4,
+impl From<Refusal> for u8 {
+    ghost from_gives = { λ refusal n. n ≡ refusal_number refusal };
+
+    fn from(refusal: Refusal) -> u8 {
+        match refusal {
+            Refusal::Address => 0,
+            Refusal::Recipe => 1,
+            Refusal::Factor => 2,
+            Refusal::Preset => 3,
+            Refusal::NotAwaited => 4,
+        }
     }
 }
 
-// What a change answers.
-#[derive(Clone, Copy)]
+// What a change answers. One enum: a Result would need errors of two kinds, Q0 to Q4 and H1.
+#[derive(Clone, Copy, PartialEq, Eq)]
 pub enum Answer {
     Refused(Refusal),
     // The lent buffer is under 64 bytes (H1).
@@ -68,7 +74,7 @@ pub enum Answer {
     Stopped(u8),
 }
 
-// The answer, and the change as it then is.
+// The answer, and the change as it then is, which goes in and out by value as the controller's record does.
 #[derive(Clone, Copy)]
 pub struct Handled {
     pub answer: Answer,
@@ -81,120 +87,187 @@ const PRESETS: Range = Range {
     high: PRESET_RANGE.high,
 };
 
+// What the last byte of the state holds where no step's reply is awaited.
 const NOT_BEGUN: u8 = 0;
-
-const FIRST: u8 = 1;
-
-const LAST: u8 = 5;
 
 const ENDED: u8 = 6;
 
 // Added to the step at which a change stopped.
 const STOPPED: u8 = 10;
 
-// ---- the texts
+// ---- the steps
 
-// Two letters, and up to two numbers behind them, each with the digits that it is written with; no digits, no number.
-#[derive(Clone, Copy)]
-struct Message {
-    pub letter: u8,
-    pub letter2: u8,
-    pub width: usize,
-    pub number: u32,
-    pub width2: usize,
-    pub number2: u32,
+// What is asked, in turn.
+#[derive(Clone, Copy, PartialEq, Eq)]
+enum Step {
+    // NR
+    Recipe,
+    // PC
+    Factor,
+    // PV
+    Value,
+    // RC
+    Composition,
+    // SB
+    Batch,
 }
 
-fn two_numbers(
-    letter: u8,
-    letter2: u8,
-    width: usize,
-    number: u32,
-    width2: usize,
-    number2: u32,
-) -> Message
-    ensures { result ≡ message_of letter letter2 width number width2 number2 }
-{
-    Message {
-        letter: letter,
-        letter2: letter2,
-        width: width,
-        number: number,
-        width2: width2,
-        number2: number2,
+// A number that is no step's.
+#[derive(Clone, Copy)]
+struct NoStep;
+
+impl From<Step> for u8 {
+    ghost from_gives = { λ step n. (n ≡ step_number step) × (n ≤ 5) };
+
+    fn from(step: Step) -> u8 {
+        match step {
+            Step::Recipe => 1,
+            Step::Factor => 2,
+            Step::Value => 3,
+            Step::Composition => 4,
+            Step::Batch => 5,
+        }
     }
 }
 
-fn one_number(letter: u8, letter2: u8, width: usize, number: u32) -> Message
-    ensures { result ≡ message_of letter letter2 width number 0 0 }
-{
-    two_numbers(letter, letter2, width, number, 0, 0)
+impl TryFrom<u8> for Step {
+    type Error = NoStep;
+
+    ghost try_from_gives = { λ n r. MatchResult r (λ step. is_step n ≡ true × step_number step ≡ n) (λ _. is_step n ≡ false) };
+
+    fn try_from(number: u8) -> Result<Step, NoStep> {
+        match number {
+            1 => Ok(Step::Recipe),
+            2 => Ok(Step::Factor),
+            3 => Ok(Step::Value),
+            4 => Ok(Step::Composition),
+            5 => Ok(Step::Batch),
+            _ => Err(NoStep),
+        }
+    }
 }
 
-fn no_number(letter: u8, letter2: u8) -> Message
-    ensures { result ≡ message_of letter letter2 0 0 0 0 }
-{
-    two_numbers(letter, letter2, 0, 0, 0, 0)
+impl Step {
+    // The step behind it; none behind the last.
+    fn next(self) -> Option<Step>
+        ensures { MatchOption result (step_number self ≡ 5) (λ step. step_number step ≡ step_number self + 1) }
+    {
+        match self {
+            Step::Recipe => Some(Step::Factor),
+            Step::Factor => Some(Step::Value),
+            Step::Value => Some(Step::Composition),
+            Step::Composition => Some(Step::Batch),
+            Step::Batch => None,
+        }
+    }
+}
+
+// ---- the texts
+
+impl Change {
+    fn recipe_number(self) -> Number
+        ensures { (result.width ≡ 2) × (result.value ≡ self.recipe) }
+    {
+        Number {
+            width: 2,
+            value: u32::from(self.recipe),
+        }
+    }
+
+    // The code of the recipe's factor.
+    fn code_number(self) -> Number
+        ensures { (result.width ≡ 3) × (result.value ≡ factor_code self) }
+    {
+        Number {
+            width: 3,
+            value: 10 * u32::from(self.recipe) + 2,
+        }
+    }
+
+    fn factor_number(self) -> Number
+        ensures { (result.width ≡ 8) × (result.value ≡ self.factor) }
+    {
+        Number {
+            width: 8,
+            value: self.factor,
+        }
+    }
+
+    fn preset_number(self) -> Number
+        ensures { (result.width ≡ 6) × (result.value ≡ self.preset) }
+    {
+        Number {
+            width: 6,
+            value: self.preset,
+        }
+    }
+}
+
+impl Message {
+    fn new(letters: &[u8; 2], first: Option<Number>, second: Option<Number>) -> Message
+        ensures { message_text result ≡ letters.now ++ (number_text first ++ number_text second) }
+    {
+        Message {
+            letters: *letters,
+            first,
+            second,
+        }
+    }
 }
 
 // What a step asks.
-fn asked(step: u8, s: Change) -> Message
-    requires { (1 ≤ step) × (step ≤ 5) }
-    ensures { (message_text result ≡ asks step s) × Narrow result }
+#[tactic(auto, unfolding(crate::specs::Drum::asks))]
+fn asked(step: Step, s: Change) -> Message
+    ensures { message_text result ≡ asks (step_number step) s }
 {
-    let recipe = wide(s.recipe);
-    let code = 10 * recipe + 2;
     match step {
-        1 => one_number(b'N', b'R', 2, recipe),
-        2 => two_numbers(b'P', b'C', 3, code, 8, s.factor),
-        3 => one_number(b'P', b'V', 3, code),
-        4 => no_number(b'R', b'C'),
-        _ => one_number(b'S', b'B', 6, s.preset),
+        Step::Recipe => Message::new(b"NR", Some(s.recipe_number()), None),
+        Step::Factor => Message::new(b"PC", Some(s.code_number()), Some(s.factor_number())),
+        Step::Value => Message::new(b"PV", Some(s.code_number()), None),
+        Step::Composition => Message::new(b"RC", None, None),
+        Step::Batch => Message::new(b"SB", Some(s.preset_number()), None),
     }
 }
 
 // The reply that is right.
-fn wanted(step: u8, s: Change) -> Message
-    requires { (1 ≤ step) × (step ≤ 5) }
-    ensures { (message_text result ≡ wants step s) × Narrow result }
+#[tactic(auto, unfolding(crate::specs::Drum::wants))]
+fn wanted(step: Step, s: Change) -> Message
+    ensures { message_text result ≡ wants (step_number step) s }
 {
-    let recipe = wide(s.recipe);
-    let code = 10 * recipe + 2;
     match step {
-        3 => two_numbers(b'P', b'V', 3, code, 8, s.factor),
-        4 => two_numbers(b'R', b'C', 2, recipe, 8, s.factor),
-        _ => no_number(b'O', b'K'),
+        Step::Recipe | Step::Factor | Step::Batch => Message::new(b"OK", None, None),
+        Step::Value => Message::new(b"PV", Some(s.code_number()), Some(s.factor_number())),
+        Step::Composition => Message::new(b"RC", Some(s.recipe_number()), Some(s.factor_number())),
     }
 }
 
 // ---- the frames
 
-// A space and a number, if it has digits.
-fn put_number(width: usize, number: u32, at: usize, out: &mut [u8]) -> usize
-    requires { at + 1 + width ≤ length out.old }
-    ensures { (result ≡ at + length (number_text width number)) × (out.new ≡ over_at at (number_text width number) out.old) }
+// A space and a number, if there is one; like the writers of text it gives the place behind what it wrote.
+fn put_number(number: Option<Number>, at: usize, out: &mut [u8]) -> usize
+    requires { at + 9 ≤ length out.old }
+    ensures { (result ≡ at + length (number_text number)) × (out.new ≡ over_at at (number_text number) out.old) }
 {
-    if width == 0 {
+    let Some(n) = number else {
         return at;
-    }
+    };
     let behind = put_word(b" ", at, out);
-    put_digits(number as u64, width, behind, out)
+    put_digits(u64::from(n.value), n.width, behind, out)
 }
 
 // The address digits, and the message behind them.
 fn put_text(address: u8, m: Message, out: &mut [u8]) -> usize
-    requires { Narrow m × (22 ≤ length out.old) }
+    requires { 22 ≤ length out.old }
     ensures { (result ≡ 0 + length (digits 2 address ++ message_text m)) × (out.new ≡ over_at 0 (digits 2 address ++ message_text m) out.old) }
 {
-    let letters = put_digits(address as u64, 2, 0, out);
-    let first = put_word(&[m.letter, m.letter2], letters, out);
-    let second = put_number(m.width, m.number, first, out);
-    put_number(m.width2, m.number2, second, out)
+    let letters = put_digits(u64::from(address), 2, 0, out);
+    let first = put_word(&m.letters, letters, out);
+    let second = put_number(m.first, first, out);
+    put_number(m.second, second, out)
 }
 
 // Builds a message's frame at the start of out.
-fn build(address: u8, m: Message, out: &mut [u8]) -> Built
-    requires { Narrow m }
+fn build(address: u8, m: Message, out: &mut [u8]) -> Result<usize, BuildRefusal>
     ensures { (built_as result, out.new) ≡ build_of Minicomputer (digits 2 address ++ message_text m) out.old }
 {
     let mut text = [0u8; LONGEST_TEXT];
@@ -203,59 +276,51 @@ fn build(address: u8, m: Message, out: &mut [u8]) -> Built
 }
 
 // The reply is the frame that is right.
-fn is_right(s: Change, reply: &[u8]) -> bool
-    requires { (1 ≤ s.step) × (s.step ≤ 5) }
-    ensures { result ≡ equal reply.now (reply_frame s.step s) }
+fn is_right(step: Step, s: Change, reply: &[u8]) -> bool
+    ensures { result ≡ equal reply.now (reply_frame (step_number step) s) }
 {
     let mut right = [0u8; ROOM];
-    let n = build(s.address, wanted(s.step, s), &mut right).length();
-    is_word(reply, &right[..n])
+    let n = build(s.address, wanted(step, s), &mut right).unwrap_or(0);
+    reply == &right[..n]
 }
 
 // ---- the change
 
-// Whether the picks are in their ranges; if not, the first that is not.
-#[derive(Clone, Copy)]
-pub enum Picks {
-    Good,
-    Out(Refusal),
-}
-
-pub fn check(s: Change) -> Picks
+// The picks are in their ranges; if not, the first that is not.
+#[tactic(auto, unfolding(crate::specs::Drum::checked))]
+pub fn check(s: Change) -> Result<(), Refusal>
     ensures { checked_as result ≡ checked s }
 {
-    if !within(ADDRESS_RANGE, wide(s.address)) {
-        return Picks::Out(Refusal::Address);
+    if !within(ADDRESS_RANGE, u32::from(s.address)) {
+        return Err(Refusal::Address);
     }
-    if !within(RECIPE_RANGE, wide(s.recipe)) {
-        return Picks::Out(Refusal::Recipe);
+    if !within(RECIPE_RANGE, u32::from(s.recipe)) {
+        return Err(Refusal::Recipe);
     }
     if !within(FACTOR_RANGE, s.factor) {
-        return Picks::Out(Refusal::Factor);
+        return Err(Refusal::Factor);
     }
     if !within(PRESETS, s.preset) {
-        return Picks::Out(Refusal::Preset);
+        return Err(Refusal::Preset);
     }
-    Picks::Good
+    Ok(())
 }
 
 impl Change {
-    // A reply is awaited, and the picks are in their ranges.
-    fn awaits(self) -> bool
-        ensures { result ≡ awaits self }
+    // The step whose reply is awaited, if the picks are in their ranges.
+    #[tactic(auto, unfolding(crate::specs::Drum::awaits))]
+    fn awaited(self) -> Option<Step>
+        ensures { MatchOption result (awaits self ≡ false) (λ step. awaits self ≡ true × step_number step ≡ self.step) }
     {
-        match check(self) {
-            Picks::Good => (FIRST <= self.step) & (self.step <= LAST),
-            Picks::Out(refusal) => false,
-        }
+        check(self).ok()?;
+        Step::try_from(self.step).ok()
     }
 
     // The same picks at another step.
-    fn at(mut self, step: u8) -> Change
+    fn at(self, step: u8) -> Change
         ensures { result ≡ at_step step self }
     {
-        self.step = step;
-        self
+        Change { step, ..self }
     }
 }
 
@@ -264,55 +329,35 @@ pub fn picked(address: u8, recipe: u8, factor: u32, preset: u32) -> Change
     ensures { result ≡ picked address recipe factor preset }
 {
     Change {
-        address: address,
-        recipe: recipe,
-        factor: factor,
-        preset: preset,
+        address,
+        recipe,
+        factor,
+        preset,
         step: NOT_BEGUN,
     }
 }
 
 // Hands out the request of a step.
-fn hand_out(step: u8, s: Change, out: &mut [u8]) -> Handled
-    requires { (1 ≤ step) × (step ≤ 5) × (64 ≤ length out.old) }
-    ensures { outcome_as result out.new ≡ hands_out step s out.old }
+fn hand_out(step: Step, s: Change, out: &mut [u8]) -> Handled
+    requires { 64 ≤ length out.old }
+    ensures { outcome_as result out.new ≡ hands_out (step_number step) s out.old }
 {
-    let n = build(s.address, asked(step, s), out).length();
+    let n = build(s.address, asked(step, s), out).unwrap_or(0);
     Handled {
         answer: Answer::Request(n),
-        after: s.at(step),
+        after: s.at(u8::from(step)),
     }
 }
 
-// Begins a change: the first request, or a refusal of what was picked.
-pub fn begin(address: u8, recipe: u8, factor: u32, preset: u32, out: &mut [u8]) -> Handled
-    ensures { outcome_as result out.new ≡ begin_of address recipe factor preset out.old }
+// Begins a change of what was picked: the first request, or a refusal of the picks.
+#[tactic(auto, unfolding(crate::specs::Drum::begin_of))]
+pub fn begin(picks: Change, out: &mut [u8]) -> Handled
+    ensures { outcome_as result out.new ≡ begin_of picks.address picks.recipe picks.factor picks.preset out.old }
 {
-    let s = picked(address, recipe, factor, preset);
-    match check(s) {
-        Picks::Out(refusal) => Handled {
-            answer: Answer::Refused(refusal),
-            after: s,
-        },
-        Picks::Good => {
-            if out.len() < ROOM {
-                return Handled {
-                    answer: Answer::ShortBuffer,
-                    after: s,
-                };
-            }
-            hand_out(FIRST, s, out)
-        }
-    }
-}
-
-// Takes the reply to the request that was handed out last: the next request, the end, a stop, or a refusal that changes nothing.
-pub fn take(s: Change, reply: &[u8], out: &mut [u8]) -> Handled
-    ensures { outcome_as result out.new ≡ take_of s reply.now out.old }
-{
-    if !s.awaits() {
+    let s = picks.at(NOT_BEGUN);
+    if let Err(refusal) = check(s) {
         return Handled {
-            answer: Answer::Refused(Refusal::NotAwaited),
+            answer: Answer::Refused(refusal),
             after: s,
         };
     }
@@ -322,18 +367,38 @@ pub fn take(s: Change, reply: &[u8], out: &mut [u8]) -> Handled
             after: s,
         };
     }
-    let step = s.step;
-    if !is_right(s, reply) {
+    hand_out(Step::Recipe, s, out)
+}
+
+// Takes the reply to the request that was handed out last: the next request, the end, a stop, or a refusal that changes nothing.
+#[tactic(auto, unfolding(crate::specs::Drum::take_of))]
+pub fn take(s: Change, reply: &[u8], out: &mut [u8]) -> Handled
+    ensures { outcome_as result out.new ≡ take_of s reply.now out.old }
+{
+    let Some(step) = s.awaited() else {
         return Handled {
-            answer: Answer::Stopped(step),
-            after: s.at(STOPPED + step),
+            answer: Answer::Refused(Refusal::NotAwaited),
+            after: s,
+        };
+    };
+    if out.len() < ROOM {
+        return Handled {
+            answer: Answer::ShortBuffer,
+            after: s,
         };
     }
-    if step == LAST {
+    let number = u8::from(step);
+    if !is_right(step, s, reply) {
         return Handled {
+            answer: Answer::Stopped(number),
+            after: s.at(STOPPED + number),
+        };
+    }
+    match step.next() {
+        Some(next) => hand_out(next, s, out),
+        None => Handled {
             answer: Answer::Ended,
             after: s.at(ENDED),
-        };
+        },
     }
-    hand_out(step + 1, s, out)
 }

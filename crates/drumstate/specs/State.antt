@@ -1,7 +1,7 @@
 -- include/khuyapesh.h, 02, L6: "The state is KHUYAPESH_DRUM_STATE bytes, numbers high byte first: address 1, recipe 1, factor 2, preset
 -- 3, step 1".
 -- b is the state, q a reply, o the buffer that is lent for the next request.
-use Rattle.std.specs.Prelude.{ℕ, ◌≡◌, List, [], ◌∷◌, ◌++◌, eqb, length, take, drop, get_or}
+use Rattle.std.specs.Prelude.{ℕ, ◌≡◌, Option, Some, None, List, [], ◌∷◌, ◌++◌, eqb, length, take, drop, get_or}
 use Rattle.base.specs.Test.{pick, unless}
 use Rattle.stored.specs.Form.{big_endian, number_of}
 use Rattle.drum.specs.declared.Change.{Change}
@@ -23,6 +23,10 @@ change_in b =
       preset = number_of (take 3 (drop 4 b));
       step = get_or b 7 0;
     }
+
+-- that of eight bytes; none of another length
+unfoldable pub change_for : List ℕ → Option Change
+change_for b = pick (eqb (length b) 8) (Some (change_in b)) None
 
 -- what is told, and what is left: the state and the lent buffer
 pub record Left : Type 0 where

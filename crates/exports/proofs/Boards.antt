@@ -1,116 +1,62 @@
 -- `khuyapesh_board`: one law for each return of the code, and what a caller can rely on, for any numbers, bytes and lengths. Assumes
 -- nothing.
-use Prim.Native.Nat.{ℕ, ◌+◌, ◌^◌, ◌≤◌, ◌<◌}
-use mathlib.Core.Path.{◌≡◌, refl, sym, ap, subst, ◌∙◌}
+use Prim.Native.Nat.{ℕ, ◌+◌, ◌≤◌, ◌<◌}
+use mathlib.Core.Path.{◌≡◌, refl, sym, ap, ◌∙◌}
 use mathlib.Core.List.{List}
 use mathlib.Core.Logic.{◌⊎◌, inl, inr}
 use native.Mathlib.Omega.{arith}
-use borrow.Author.Tests.{eq-eqb, ne_eqb, le-leb, lt-leb}
+use borrow.Author.Tests.{eq-eqb, ne_eqb}
+use Rattle.std.specs.Prelude.{Result, Ok, Err}
+use Rattle.stored.specs.declared.Refusal.{Refusal}
 use Rattle.frame.specs.declared.Kind.{Kind}
-use Rattle.frame.specs.declared.Silence.{Silence}
-use Rattle.frame.specs.Numbers.{silence_number}
-use Rattle.frame.proofs.Laws.{silence_low}
-use Rattle.controller.specs.declared.Answer as controller
-use Rattle.controller.specs.declared.Answer.TheVariants.{Silent, Reply}
-use Rattle.controller.specs.Call.{answer_silence, answer_length}
-use Rattle.board.specs.declared.Refusal as list
-use Rattle.board.specs.declared.Answer as board
-use Rattle.board.specs.declared.Answer.TheVariants as called
-use Rattle.board.specs.Board.{Outcome, refusal_number, board_of}
-use Rattle.board.proofs.Laws.{refusal_low}
-use Rattle.storedboard.specs.declared.Answer as storedboard
-use Rattle.storedboard.specs.declared.Answer.TheVariants as answer
-use Rattle.storedboard.specs.StoredBoard.{count_in, forms_in, records_in, Left, left_as, refused_by, silent_by, stored_board_of}
+use Rattle.frame.specs.declared.UnknownKind.{UnknownKind}
+use Rattle.frame.specs.Numbers.{kind_numbered}
+use Rattle.board.specs.Board as board
+use Rattle.board.specs.Board.{Outcome, answer_length, board_of}
+use Rattle.storedboard.specs.StoredBoard.{count_in, forms_in, records_in, Left, called_as, left_as, stored_board_of}
 use Rattle.storedboard.proofs.Theorems as stored
-use Rattle.exports.specs.Bytes.{silence_answer, no_such, is_kind, kind_of, heard_answer, board_answer, board_left, board_bytes, answer_left, Tellable}
+use Rattle.exports.specs.Bytes.{silence_answer, no_such, is_kind, kind_of, board_answer, board_left, board_bytes, answer_left, Tellable}
+use Rattle.exports.proofs.Steps.{kind_is, kind_none}
 use Rattle.exports.proofs.InPlace.{either, Within}
 
--- ---- the numbers
-module _ (c : controller.Answer) where
-  pub answer-silent : (w : Silence) (x : ℕ) → c ≡ Silent w → x ≡ silence_answer (silence_number w) → x ≡ heard_answer (answer_silence c) (answer_length c)
-  answer-silent w x e z =
-      let l : 1 ≤ silence_number w = silence_low w in
-      z
-      ∙ (sym (simp (ne_eqb (silence_number w) 0 (λ u. omega arith)))
-      ∙ ap (λ (y : controller.Answer). heard_answer (answer_silence y) (answer_length y)) (sym e))
-
-  pub answer-reply : (n : ℕ) → c ≡ Reply n → n ≡ heard_answer (answer_silence c) (answer_length c)
-  answer-reply n e = ap (λ (y : controller.Answer). heard_answer (answer_silence y) (answer_length y)) (sym e)
-
-  pub answer-fits : (n : ℕ) → answer_length c ≤ 64 → c ≡ Reply n → n < 2 ^ 32
-  answer-fits n h e = let l : n ≤ 64 = subst (λ (y : controller.Answer). answer_length y ≤ 64) e h in omega arith
-
-pub ruleset answering = (answer-silent, answer-reply)
-
-module _ (a : storedboard.Answer) where
-  pub told-refused : (n m : ℕ) → a ≡ answer.Refused n → Tellable a → m ≡ n → 200 + m ≡ board_answer (answer_left a)
-  told-refused n m e t z =
-      let l : 1 ≤ n = subst Tellable e t in
-      ap (λ (i : ℕ). 200 + i) z ∙ (sym (simp (ne_eqb n 0 (λ u. omega arith))) ∙ ap (λ (y : storedboard.Answer). board_answer (answer_left y)) (sym e))
-
-  module _ (c : board.Answer) (e : a ≡ answer.Called c) where
-    pub told_list : (w : list.Refusal) (m i : ℕ) → c ≡ called.Refused w → m ≡ refusal_number w → i ≡ m → 100 + i ≡ board_answer (answer_left a)
-    told_list w m i f z y =
-        let l : 9 ≤ refusal_number w = refusal_low w in
-        ap (λ (j : ℕ). 100 + j) (y ∙ z)
-        ∙ (sym (simp (ne_eqb (refusal_number w) 0 (λ u. omega arith))) ∙ ap (λ (y : storedboard.Answer). board_answer (answer_left y)) (sym (e ∙ ap answer.Called f)))
-
-    pub told-call : (d : controller.Answer) (x : ℕ) → c ≡ called.Called d → x ≡ heard_answer (answer_silence d) (answer_length d)
-        → x ≡ board_answer (answer_left a)
-    told-call d x f z = z ∙ ap (λ (y : storedboard.Answer). board_answer (answer_left y)) (sym (e ∙ ap answer.Called f))
-
-    pub told-length : (d : controller.Answer) → c ≡ called.Called d → Tellable a → answer_length d ≤ 64
-    told-length d f t = subst Tellable (e ∙ ap answer.Called f) t
-
-pub ruleset telling = (told-refused, told_list, told-call)
-
 -- ---- the returns of `khuyapesh_board`
-module _ (n : ℕ) (s q o : List ℕ) where
-  pub board_none : 1 < n → (no_such, (s, o)) ≡ board_bytes n s q o
+module _ (n : ℕ) (s q o : List ℕ) (i : Result Kind UnknownKind) (z : i ≡ kind_numbered n) where
+  pub board_none : (u : UnknownKind) → i ≡ Err u → (no_such, (s, o)) ≡ board_bytes n s q o
   unfolding board_bytes
-  board_none h = simp (lt-leb n 1 h)
+  board_none u h = simp (kind_none n i z u h)
 
-  module _ (low : n ≤ 1) (k : Kind) (e : k ≡ kind_of n) (a : storedboard.Answer) (t b : List ℕ) (f : left_as a t b ≡ stored_board_of k s q o) where
-    same_answer : (a : storedboard.Answer) → board_answer (answer_left a) ≡ board_answer (left_as a t b)
-    same_answer (answer.Refused m) = refl
-    same_answer (answer.Called c) = refl
+  module _ (k : Kind) (e : i ≡ Ok k) (a : Result board.Answer Refusal) (t b : List ℕ) (f : left_as a t b ≡ stored_board_of k s q o) where
+    same_answer : (a : Result board.Answer Refusal) → board_answer (answer_left a) ≡ board_answer (left_as a t b)
+    same_answer (Err m) = refl
+    same_answer (Ok c) = refl
 
-    left_is : (a : storedboard.Answer) → board_left (left_as a t b) ≡ (board_answer (left_as a t b), (t, b))
+    left_is : (a : Result board.Answer Refusal) → board_left (left_as a t b) ≡ (board_answer (left_as a t b), (t, b))
     unfolding board_left
-    left_is (answer.Refused m) = refl
-    left_is (answer.Called c) = refl
+    left_is (Err m) = refl
+    left_is (Ok c) = refl
 
     pub board_answered : (x : ℕ) → x ≡ board_answer (answer_left a) → (x, (t, b)) ≡ board_bytes n s q o
     unfolding board_bytes
-    board_answered x z =
-        ap (λ (y : ℕ). (y, (t, b))) (z ∙ same_answer a)
-        ∙ (sym (left_is a) ∙ (ap board_left f ∙ (ap (λ (j : Kind). board_left (stored_board_of j s q o)) e ∙ simp (le-leb n 1 low))))
+    board_answered x h =
+        let (known, same) = kind_is n i z k e in
+        ap (λ (y : ℕ). (y, (t, b))) (h ∙ same_answer a)
+        ∙ (sym (left_is a) ∙ (ap board_left f ∙ (ap (λ (j : Kind). board_left (stored_board_of j s q o)) same ∙ simp known)))
 
--- an answer has a number, and the length of a reply has room
-pub tellable : (k : Kind) (s q o : List ℕ) (a : storedboard.Answer) (t b : List ℕ) → left_as a t b ≡ stored_board_of k s q o → Tellable a
-tellable k s q o a t b =
-    stored.left_cases k s q o (λ (x : Left). left_as a t b ≡ x → Tellable a) (λ n l h e. refused a n l e) (λ n l h y e. silent a n l e)
-    (λ r e. heard a r e)
+-- the length of a reply has room
+pub tellable : (k : Kind) (s q o : List ℕ) (a : Result board.Answer Refusal) (t b : List ℕ) → left_as a t b ≡ stored_board_of k s q o → Tellable a
+tellable k s q o (Err m) t b e = tt
+tellable k s q o (Ok c) t b e =
+    stored.left_cases k s q o (λ (x : Left). called_as c t b ≡ x → answer_length c ≤ 64)
+    (λ n l h f. omega (arith, ap (λ (x : Left). x.reported) f)) (λ n l h y f. omega (arith, ap (λ (x : Left). x.reported) f)) heard e
   where
-    refused : (a : storedboard.Answer) (n : ℕ) → 1 ≤ n → left_as a t b ≡ refused_by n s o → Tellable a
-    refused (answer.Refused m) n l e = let z : m ≡ n = ap (λ (x : Left). x.refused) e in omega arith
-    refused (answer.Called c) n l e = omega (arith, ap (λ (x : Left). x.reported) e)
-
-    silent : (a : storedboard.Answer) (n : ℕ) → 2 ≤ n → left_as a t b ≡ silent_by n s o → Tellable a
-    silent (answer.Refused m) n l e = absurd (let z : 0 ≡ n = ap (λ (x : Left). x.silence) e in omega arith)
-    silent (answer.Called c) n l e = omega (arith, ap (λ (x : Left). x.reported) e)
-
-    heard : (a : storedboard.Answer) → stored.Replied k s q o → left_as a t b ≡ stored.left k s q o → Tellable a
-    heard a r e =
+    heard : stored.Replied k s q o → called_as c t b ≡ stored.left k s q o → answer_length c ≤ 64
+    heard r f =
         let w = r.served.answered in
         let z = ap (λ (c : Outcome). c.reported) r.served.called in
-        go a (omega (arith, w.low)) (omega (arith, w.high)) e
-      where
-        go : (a : storedboard.Answer) → 7 ≤ (stored.left k s q o).reported → (stored.left k s q o).reported ≤ 64 → left_as a t b ≡ stored.left k s q o → Tellable a
-        go (answer.Refused m) l h e = absurd (omega (arith, ap (λ (x : Left). x.reported) e))
-        go (answer.Called c) l h e = omega (arith, ap (λ (x : Left). x.reported) e)
+        let h : (stored.left k s q o).reported ≤ 64 = omega (arith, w.high) in
+        omega (arith, ap (λ (x : Left). x.reported) f)
 
-pub ruleset boarding = (board_none, board_answered)
+pub ruleset boarding = (board_none, board_answered, tellable)
 
 -- ---- what a caller can rely on
 module _ (kind : ℕ) (s q o : List ℕ) where

@@ -1,5 +1,5 @@
 -- What the code's returns give of a drum change is what the definitions of specs/ say. Assumes nothing.
-use Prim.Native.Nat.{ℕ, ◌+◌, ◌-◌, ◌^◌, ◌≤◌, ◌<◌}
+use Prim.Native.Nat.{ℕ, ◌+◌, ◌-◌, ◌≤◌}
 use mathlib.Core.Path.{◌≡◌, refl, sym, ap, subst, ◌∙◌}
 use mathlib.Core.List.{List}
 use native.Mathlib.Omega.{arith}
@@ -7,25 +7,14 @@ use lib.Dec.{eqb, leb}
 use borrow.Author.Tests.{le-leb, lt-leb, ne_eqb}
 use Rattle.base.specs.Test.{pick}
 use Rattle.drum.specs.declared.Answer.{Answer}
-use Rattle.drum.specs.declared.Answer.TheVariants.{Refused, Request, Stopped}
-use Rattle.drum.specs.declared.Refusal.{Refusal}
-use Rattle.drum.specs.Numbers.{refusal_number, told_as}
+use Rattle.drum.specs.Numbers.{told_as}
 use Rattle.drum.specs.Turns.{size_told}
 use Rattle.drumstate.specs.State.{Left, left_as, begin_of, take_of}
 use Rattle.drumstate.proofs.Theorems.{begun_says, taken_says}
-use Rattle.drum.specs.Drum.{Told, Q, short, request, end, stop}
+use Rattle.drum.specs.declared.Change.{Change}
+use Rattle.drum.specs.Drum.{picked, Told, Q, short, request, end, stop}
 use Rattle.drum.proofs.Order.{Sayable, refuses, hands_out_lem, breaks_off}
 use Rattle.exports.specs.Bytes.{drum_answer, drum_left}
-
--- ---- `drum_answer`
-pub refusal-told : (a : Answer) (w : Refusal) (n m : ℕ) → a ≡ Refused w → n ≡ refusal_number w → m ≡ n → 600 + m ≡ drum_answer (told_as a)
-refusal-told a w n m e f g = let h : m ≡ refusal_number w = g ∙ f in simp (e, h)
-
-pub stop-told : (a : Answer) (i m : ℕ) → a ≡ Stopped i → m ≡ i → 700 + m ≡ drum_answer (told_as a)
-stop-told a i m e f = simp (e, f)
-
-pub request-fits : (a : Answer) (n : ℕ) → size_told (told_as a) ≤ 64 → a ≡ Request n → n < 2 ^ 32
-request-fits a n l e = let h : n ≤ 64 = subst (λ (x : Answer). size_told (told_as x) ≤ 64) e l in omega arith
 
 -- ---- the length that is told
 says_short : (t : Told) → Sayable t → size_told t ≤ 64
@@ -48,6 +37,11 @@ taken_tellable y s q o b₁ o₁ e = told-short y b₁ o₁ _ e (taken_says s q 
 pub drum_left_lem : (n : ℕ) (y : Answer) (b o : List ℕ) (x : Left) → left_as y b o ≡ x → n ≡ drum_answer (told_as y) → (n, (b, o)) ≡ drum_left x
 unfolding drum_left
 drum_left_lem n y b o x e f = ap (λ (m : ℕ). (m, (b, o))) f ∙ ap drum_left e
+
+pub begun_left : (a r f p n : ℕ) (c : Change) (y : Answer) (b o b₁ o₁ : List ℕ) → c ≡ picked a r f p → left_as y b₁ o₁ ≡ begin_of c.address c.recipe c.factor c.preset b o
+    → n ≡ drum_answer (told_as y) → (n, (b₁, o₁)) ≡ drum_left (begin_of a r f p b o)
+begun_left a r f p n c y b o b₁ o₁ e g h =
+    drum_left_lem n y b₁ o₁ (begin_of a r f p b o) (g ∙ ap (λ (x : Change). begin_of x.address x.recipe x.factor x.preset b o) e) h
 
 -- ---- the number tells what was told: 0 is the end alone, a length is a request's, and each refusal and each stop has a number of its own
 abbrev pub told_in : ℕ → Told

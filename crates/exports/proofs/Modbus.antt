@@ -11,10 +11,11 @@ use Rattle.base.proofs.Tests.{and_right}
 use Rattle.state.specs.declared.Record.{Record}
 use Rattle.state.specs.Valid as state
 use Rattle.bank.specs.Bank as bank
-use Rattle.stored.specs.declared.Answer.{Answer}
-use Rattle.stored.specs.declared.Written.{Written}
+use Rattle.std.specs.Prelude.{Result, Ok, Err}
+use Rattle.std.specs.Result.{IsOk}
+use Rattle.stored.specs.declared.WriteRefusal.{WriteRefusal}
 use Rattle.stored.specs.Form as stored
-use Rattle.stored.specs.Form.{done, answer_as, written_as, stored_form, write_of}
+use Rattle.stored.specs.Form.{done, written_as, stored_form, write_of}
 use Rattle.stored.proofs.RoundTrip.{form_read}
 use Rattle.controller.specs.Call.{OutcomeOf, Outcome}
 use Rattle.controller.proofs.Theorems.{SilentOutcome}
@@ -22,16 +23,13 @@ use Rattle.banked.specs.declared.Banked.{Banked}
 use Rattle.banked.specs.Banked.{valid}
 use Rattle.crc.specs.Crc.{crc_right}
 use Rattle.modbus.specs.declared.Silence.{Silence}
-use Rattle.modbus.specs.declared.Answer as modbus
-use Rattle.modbus.specs.declared.Answer.TheVariants.{Silent, Reply}
 use Rattle.modbus.specs.Call.{modbus_of, banked_modbus_of}
 use Rattle.modbus.specs.Numbers.{silence_number, outcome_as}
 use Rattle.modbus.proofs.Fits.{silence_low}
 use Rattle.modbus.proofs.Theorems.{ReplyOutcome, every_input, silence_exactly, keeps_valid, good_bank}
-use Rattle.exports.specs.declared.Opened.{Opened}
-use Rattle.exports.specs.Bytes.{has_room, open_answer, open_of, open_banked, opened_as}
+use Rattle.exports.specs.Bytes.{Opened, open_of, open_banked}
 use Rattle.exports.specs.Modbus.{modbus_silence, modbus_refusal, modbus_left, modbus_bytes, banked_modbus_left, banked_modbus_bytes}
-use Rattle.exports.proofs.Steps.{quiet_left, heard_left, open_tells, opened_read, refused_so, opened_so, opened-valid}
+use Rattle.exports.proofs.Steps.{quiet_left, heard_left, open_tells, opens, refuses, left_refused, left_opened, opened-valid, replaced_ok}
 use Rattle.exports.proofs.InPlace.{Within, called_cases}
 use Rattle.exports.proofs.Theorems.{StoredAnswer, record_number}
 use Rattle.exports.proofs.Banks.{tells, held-valid}
@@ -49,45 +47,49 @@ unfolding modbus_of
 every r q o = every_input (state.valid r) r q o
 
 -- ---- one call on a record
-module _ (r : Record) (q o : List ℕ) (a : modbus.Answer) (t : Record) (b : List ℕ) (e : outcome_as a t b ≡ modbus_of r q o) where
-  pub modbus_silent : (s : List ℕ) (w : Silence) (x : ℕ) → a ≡ Silent w → x ≡ modbus_silence (silence_number w) → (x, (s, b)) ≡ modbus_left (modbus_of r q o) s o
+module _ (r : Record) (q o : List ℕ) (a : Result ℕ Silence) (t : Record) (b : List ℕ) (e : outcome_as a t b ≡ modbus_of r q o) where
+  pub modbus_silent : (s : List ℕ) (w : Silence) (x : ℕ) → a ≡ Err w → x ≡ modbus_silence (silence_number w) → (x, (s, b)) ≡ modbus_left (modbus_of r q o) s o
   unfolding modbus_left
   modbus_silent s w x h i =
-      let c : (modbus_of r q o).silence ≡ silence_number w = ap (λ (y : Outcome). y.silence) (sym e) ∙ ap (λ (y : modbus.Answer). (outcome_as y t b).silence) h in
+      let c : (modbus_of r q o).silence ≡ silence_number w = ap (λ (y : Outcome). y.silence) (sym e) ∙ ap (λ (y : Result ℕ Silence). (outcome_as y t b).silence) h in
       quiet_left modbus_silence (modbus_of r q o) s o b (silence_number w) x (ap (λ (y : Outcome). y.buffer) e) c (silence_low w)
       (λ l. ⊎_elim (λ (y : Silenced r q o). y.same-buffer) (λ (y : Answered r q o). absurd (omega (arith, y.heard))) (every r q o)) i
 
-  module _ (m : ℕ) (h : a ≡ Reply m) where
-    heard : outcome_as (Reply m) t b ≡ modbus_of r q o
-    heard = ap (λ (y : modbus.Answer). outcome_as y t b) (sym h) ∙ e
+  module _ (m : ℕ) (h : a ≡ Ok m) where
+    heard : outcome_as (Ok m) t b ≡ modbus_of r q o
+    heard = ap (λ (y : Result ℕ Silence). outcome_as y t b) (sym h) ∙ e
 
     pub modbus_fits : m < 2 ^ 32
     modbus_fits =
         let c : m ≡ (modbus_of r q o).reported = ap (λ (y : Outcome). y.reported) heard in
         ⊎_elim (λ (x : Silenced r q o). omega (arith, x.nothing)) (λ (x : Answered r q o). omega (arith, x.high)) (every r q o)
 
-    pub modbus_reply : (s d : List ℕ) (w : Written) → open_of s ≡ (0, r) → (written_as w, d) ≡ write_of t s → (m, (d, b)) ≡ modbus_left (modbus_of r q o) s o
-    unfolding modbus_left
-    modbus_reply s d w f i = heard_left modbus_silence (modbus_of r q o) s o d b r t m w heard f (keeps_valid r q o (opened-valid s r f)) i
+    module _ (s d : List ℕ) (w : Result (Unit {0}) WriteRefusal) (f : open_of s ≡ (0, r)) (i : (written_as w, d) ≡ write_of t s) where
+      pub modbus_ok : IsOk w
+      modbus_ok = replaced_ok s r f t d w (ap (λ (y : Outcome). state.valid y.after) heard ∙ keeps_valid r q o (opened-valid s r f)) i
 
-pub ruleset modbus-calling = (modbus_silent, modbus_reply)
+      pub modbus_reply : (m, (d, b)) ≡ modbus_left (modbus_of r q o) s o
+      unfolding modbus_left
+      modbus_reply = heard_left modbus_silence (modbus_of r q o) s o d b r t m w heard f (keeps_valid r q o (opened-valid s r f)) i
+
+pub ruleset modbus_calling = (modbus_silent, modbus_fits, modbus_ok, modbus_reply)
 
 -- ---- `khuyapesh_modbus`
-module _ (s q o : List ℕ) (a : Answer) (r : Record) (e : (answer_as a, r) ≡ stored.read_of s) (x : ℕ) (z : x ≡ open_answer (answer_as a) (has_room s)) where
-  pub modbus_room : 1000 + x < 2 ^ 32
-  modbus_room =
-      let n : x ≡ (open_of s).0 = ap (λ (p : ℕ × Record). p.0) (opened_read s a r e x z) in
+module _ (s q o : List ℕ) (a : Result Record ℕ) (e : Opened a (open_of s)) where
+  pub modbus_room : (x : ℕ) → a ≡ Err x → 1000 + x < 2 ^ 32
+  modbus_room x z =
+      let (n, h) = refuses (open_of s) a e x z in
       ⊎_elim (λ (w : (open_of s).0 ≡ 0). omega arith) (λ (w : StoredAnswer (open_of s).0). omega (arith, banked_below (open_of s).0 (inl w))) (record_number s)
 
-  pub modbus_refused : (x ≡ 0 → ⊥) → (modbus_refusal x, (s, o)) ≡ modbus_bytes s q o
+  pub modbus_refused : (x : ℕ) → a ≡ Err x → (modbus_refusal x, (s, o)) ≡ modbus_bytes s q o
   unfolding modbus_bytes
-  modbus_refused h = refused_so (open_of s) (λ n. (modbus_refusal n, (s, o))) (λ t. modbus_left (modbus_of t q o) s o) x r (opened_read s a r e x z) h
+  modbus_refused x z = left_refused (open_of s) a e (λ n. (modbus_refusal n, (s, o))) (λ t. modbus_left (modbus_of t q o) s o) x z
 
-  pub modbus_answered : (y : ℕ × (List ℕ × List ℕ)) → x ≡ 0 → y ≡ modbus_left (modbus_of r q o) s o → y ≡ modbus_bytes s q o
+  pub modbus_answered : (r : Record) (y : ℕ × (List ℕ × List ℕ)) → a ≡ Ok r → y ≡ modbus_left (modbus_of r q o) s o → y ≡ modbus_bytes s q o
   unfolding modbus_bytes
-  modbus_answered y h f = f ∙ opened_so (open_of s) (λ n. (modbus_refusal n, (s, o))) (λ t. modbus_left (modbus_of t q o) s o) x r (opened_read s a r e x z) h
+  modbus_answered r y z f = f ∙ left_opened (open_of s) a e (λ n. (modbus_refusal n, (s, o))) (λ t. modbus_left (modbus_of t q o) s o) r z
 
-pub ruleset modbus-serving = (modbus_refused, modbus_answered)
+pub ruleset modbus_serving = (modbus_room, modbus_refused, modbus_answered, opens)
 
 -- ---- `khuyapesh_banked_modbus`
 
@@ -98,31 +100,31 @@ bank_unseen h s b q o e =
     ap (λ (c : OutcomeOf Banked). banked_modbus_left c s o)
     (good_bank h q o (and_right (state.valid h.state) (bank.valid h.bank) (held-valid s b h e)))
 
-module _ (s b q o : List ℕ) (x : Opened) (e : opened_as x ≡ open_banked s b) where
-  pub banked_modbus_room : 1000 + x.answer < 2 ^ 32
-  banked_modbus_room =
-      let n : x.answer ≡ (open_banked s b).0 = ap (λ (p : ℕ × Banked). p.0) e in
+module _ (s b q o : List ℕ) (x : Result Banked ℕ) (e : Opened x (open_banked s b)) where
+  pub banked_modbus_room : (m : ℕ) → x ≡ Err m → 1000 + m < 2 ^ 32
+  banked_modbus_room m z =
+      let (n, h) = refuses (open_banked s b) x e m z in
       ⊎_elim (λ (w : (open_banked s b).0 ≡ 0). omega arith) (λ (w : BankedAnswer (open_banked s b).0). omega (arith, banked_below (open_banked s b).0 w)) (banked_number s b)
 
-  pub banked_modbus_refused : (x.answer ≡ 0 → ⊥) → (modbus_refusal x.answer, (s, o)) ≡ banked_modbus_bytes s b q o
+  pub banked_modbus_refused : (m : ℕ) → x ≡ Err m → (modbus_refusal m, (s, o)) ≡ banked_modbus_bytes s b q o
   unfolding banked_modbus_bytes
-  banked_modbus_refused h =
-      refused_so (open_banked s b) (λ n. (modbus_refusal n, (s, o))) (λ y. banked_modbus_left (banked_modbus_of y q o) s o) x.answer x.held e h
+  banked_modbus_refused m z =
+      left_refused (open_banked s b) x e (λ n. (modbus_refusal n, (s, o))) (λ y. banked_modbus_left (banked_modbus_of y q o) s o) m z
 
-  module _ (h : x.answer ≡ 0) where
-    both : open_banked s b ≡ (0, x.held)
-    both = sym e ∙ ap (λ (n : ℕ). (n, x.held)) h
+  module _ (h : Banked) (z : x ≡ Ok h) where
+    both : open_banked s b ≡ (0, h)
+    both = opens (open_banked s b) x e h z
 
-    pub banked_modbus_opened : open_of s ≡ (0, x.held.state)
-    banked_modbus_opened = (tells s b x.held both).0
+    pub banked_modbus_opened : open_of s ≡ (0, h.state)
+    banked_modbus_opened = (tells s b h both).0
 
-    pub banked_modbus_answered : (y : ℕ × (List ℕ × List ℕ)) → y ≡ modbus_left (modbus_of x.held.state q o) s o → y ≡ banked_modbus_bytes s b q o
+    pub banked_modbus_answered : (y : ℕ × (List ℕ × List ℕ)) → y ≡ modbus_left (modbus_of h.state q o) s o → y ≡ banked_modbus_bytes s b q o
     unfolding banked_modbus_bytes
     banked_modbus_answered y f =
-        f ∙ (sym (bank_unseen x.held s b q o both)
-        ∙ opened_so (open_banked s b) (λ n. (modbus_refusal n, (s, o))) (λ z. banked_modbus_left (banked_modbus_of z q o) s o) x.answer x.held e h)
+        f ∙ (sym (bank_unseen h s b q o both)
+        ∙ left_opened (open_banked s b) x e (λ n. (modbus_refusal n, (s, o))) (λ z. banked_modbus_left (banked_modbus_of z q o) s o) h z)
 
-pub ruleset banked-modbus-serving = (banked_modbus_refused, banked_modbus_answered)
+pub ruleset banked_modbus_serving = (banked_modbus_room, banked_modbus_refused, banked_modbus_opened, banked_modbus_answered)
 
 -- ---- what a caller of `khuyapesh_modbus` can rely on
 
@@ -181,17 +183,16 @@ module _ (s b q o : List ℕ) where
   pub banked_refused : (n : ℕ) → (open_banked s b).0 ≡ n → (n ≡ 0 → ⊥) → banked_modbus_bytes s b q o ≡ (modbus_refusal n, (s, o))
   unfolding banked_modbus_bytes
   banked_refused n e h =
-      sym (refused_so (open_banked s b) (λ m. (modbus_refusal m, (s, o))) (λ y. banked_modbus_left (banked_modbus_of y q o) s o) n (open_banked s b).1
-      (ap (λ (m : ℕ). (m, (open_banked s b).1)) (sym e)) h)
+      sym (left_refused {S = Banked} (open_banked s b) (Err n) (e, h) (λ m. (modbus_refusal m, (s, o))) (λ y. banked_modbus_left (banked_modbus_of y q o) s o) n refl)
 
   pub banked_beside : (open_banked s b).0 ≡ 0 → banked_modbus_bytes s b q o ≡ modbus_bytes s q o
   unfolding banked_modbus_bytes modbus_bytes
   banked_beside e =
       let h : Banked = (open_banked s b).1 in
       let both : open_banked s b ≡ (0, h) = ap (λ (m : ℕ). (m, h)) e in
-      sym (opened_so (open_banked s b) (λ m. (modbus_refusal m, (s, o))) (λ y. banked_modbus_left (banked_modbus_of y q o) s o) 0 h (sym both) refl)
+      sym (left_opened (open_banked s b) (Ok h) both (λ m. (modbus_refusal m, (s, o))) (λ y. banked_modbus_left (banked_modbus_of y q o) s o) h refl)
       ∙ (bank_unseen h s b q o both
-      ∙ opened_so (open_of s) (λ m. (modbus_refusal m, (s, o))) (λ t. modbus_left (modbus_of t q o) s o) 0 h.state (sym (tells s b h both).0) refl)
+      ∙ left_opened (open_of s) (Ok h.state) (tells s b h both).0 (λ m. (modbus_refusal m, (s, o))) (λ t. modbus_left (modbus_of t q o) s o) h.state refl)
 
   -- so its numbers are those, and 1207 for the bank; and a silence or refusal leaves every lent byte here too
   pub banked_modbus_answers : (Within 5 255 (banked_modbus_bytes s b q o).0 ⊎ (Within 902 908 (banked_modbus_bytes s b q o).0 ⊎ (RecordRefusal (banked_modbus_bytes s b q o).0 ⊎ ((banked_modbus_bytes s b q o).0 ≡ 1207))))

@@ -9,36 +9,27 @@ use native.Mathlib.Omega.{arith}
 use lib.Dec.{eqb, leb}
 use lib.ListN.{length, take}
 use borrow.Author.Tests.{le-leb, lt-leb, not-true, not-false}
+use Rattle.std.specs.Prelude.{Result, Ok}
 use Rattle.base.specs.Test.{pick, unless}
 use Rattle.base.specs.Lists.{over}
 use Rattle.base.proofs.Lists.{over-take}
-use Rattle.state.specs.Field.{field_at, field_count, flag_number}
+use Rattle.state.specs.Field.{field_at, field_count}
 use Rattle.recording.specs.declared.Refusal.{Refusal}
-use Rattle.recording.specs.declared.Next.{Next}
-use Rattle.recording.specs.declared.Next.TheVariants as next
-use Rattle.recording.specs.declared.Spans.{Spans}
-use Rattle.recording.specs.Form.{refusal_number}
 use Rattle.recording.specs.Known as known
 use Rattle.recording.specs.Known.{RightlyTold, RightlyReasoned}
 use Rattle.knowledge.specs.declared.Knowledge.{Knowledge}
 use Rattle.knowledge.specs.Sets.{has}
-use Rattle.knowledge.specs.Knowledge.{sets_of, may_hold, room_for, lent_in, laid_in}
+use Rattle.knowledge.specs.Knowledge.{sets_of, room_for, lent_in, laid_in}
 use Rattle.frame.specs.declared.Kind.TheVariants.{Minicomputer}
 use Rattle.banked.specs.Banked.{asks_heard}
 use Rattle.hearing.specs.Hearing.{exchange, exchange_learnt, exchange_taught}
 use Rattle.hearing.proofs.Exact.{taught_after}
-use Rattle.reason.specs.declared.Reason.{Reason}
 use Rattle.reason.specs.declared.Reason.TheVariants as reason
 use Rattle.judging.specs.declared.Told.{Told}
 use Rattle.judging.specs.declared.Told.TheVariants as told
-use Rattle.judging.specs.declared.Findings.{Findings}
-use Rattle.judging.specs.declared.Cause.{Cause}
-use Rattle.judging.specs.declared.Cause.TheVariants as cause
-use Rattle.judging.specs.Judge.{Telling, unread, broken, halted, sets, telling_as, known_of, known_as, told_by, Caused, unexplained, fitting, unjudged, because, caused_as, why_of, reasoned_by}
+use Rattle.judging.specs.Judge.{Telling, unread, broken, halted, sets, known_of, known_as, told_by, Caused, unexplained, fitting, unjudged, because, why_of, reasoned_by}
 use Rattle.judging.proofs.Theorem.{known_right, known-length, why_right}
-use Rattle.exports.specs.declared.WhyNumbers.{WhyNumbers}
-use Rattle.exports.specs.declared.Found.{Found}
-use Rattle.exports.specs.Bytes.{recording_answer, known_left, known_numbers, learnt_left, learn_numbers, may_hold_number, reason_numbers, why_as, why_numbers, exchange_numbers, found_as}
+use Rattle.exports.specs.Bytes.{known_left, known_numbers, learnt_left, learn_numbers, why_numbers}
 
 -- ---- codes that are laid where there is room
 laid-over : (cs o d : List ℕ) (b : Bool) → field_count ≤ length o → (b, d) ≡ laid_in cs o → d ≡ over cs o
@@ -46,30 +37,13 @@ unfolding laid_in
 laid-over cs o d b room e = let z : laid_in cs o ≡ (true, over cs o) = simp (le-leb _ _ room) in ap (λ (p : Bool × List ℕ). p.1) (e ∙ z)
 
 -- ---- `khuyapesh_known`
-module _ (bs : List ℕ) (k : ℕ) (o : List ℕ) where
-  pub known-short : length o < field_count → (401, (0, o)) ≡ known_numbers bs k o
+module _ (bs : List ℕ) (k : ℕ) (o : List ℕ) (room : field_count ≤ length o) (x : Result Told Refusal) (e : known_as x ≡ known_of bs k) where
+  pub known_by_lem : (y : Result Told Refusal) → x ≡ y → known_left (known_as y) o ≡ known_numbers bs k o
   unfolding known_numbers
-  known-short h = simp (lt-leb _ _ h)
+  known_by_lem y z = ap (λ (w : Telling × List ℕ). known_left w o) (ap known_as (sym z) ∙ e) ∙ simp (le-leb _ _ room)
 
-  module _ (x : Findings) (room : field_count ≤ length o) (e : known_as x ≡ known_of bs k) where
-    known_by_lem : (t : Told) → x.told ≡ t → known_left (telling_as t, x.codes) o ≡ known_numbers bs k o
-    unfolding known_numbers
-    known_by_lem t z =
-        ap (λ (y : Told). known_left (telling_as y, x.codes) o) (sym z) ∙ (ap (λ (y : Telling × List ℕ). known_left y o) e ∙ simp (le-leb _ _ room))
-
-    pub known-refused : (j : Refusal) (n : ℕ) → x.told ≡ told.Refused j → n ≡ recording_answer (refusal_number j) → (n, (0, o)) ≡ known_numbers bs k o
-    known-refused j n z f = ap (λ (y : ℕ). (y, (0, o))) f ∙ known_by_lem (told.Refused j) z
-
-    pub known-refuted : (i : ℕ) → x.told ≡ told.Refuted i → (1, (i, o)) ≡ known_numbers bs k o
-    known-refuted i z = known_by_lem (told.Refuted i) z
-
-    pub known-halted : (i : ℕ) → x.told ≡ told.NotJudged i → (2, (i, o)) ≡ known_numbers bs k o
-    known-halted i z = known_by_lem (told.NotJudged i) z
-
-    pub known-laid : (b : Bool) (d : List ℕ) → x.told ≡ told.Sets → (b, d) ≡ laid_in x.codes o → (0, (0, d)) ≡ known_numbers bs k o
-    known-laid b d z f = ap (λ (y : List ℕ). (0, (0, y))) (laid-over x.codes o d b room f) ∙ known_by_lem told.Sets z
-
-pub ruleset knowing = (known-short, known-refused, known-refuted, known-halted, known-laid)
+  pub known_laid : (t : Told) (cs : List ℕ) (b : Bool) (d : List ℕ) → x ≡ Ok t → t ≡ told.Sets cs → (b, d) ≡ laid_in cs o → (0, (0, d)) ≡ known_numbers bs k o
+  known_laid t cs b d z i f = ap (λ (y : List ℕ). (0, (0, y))) (laid-over cs o d b room f) ∙ known_by_lem (Ok (told.Sets cs)) (z ∙ ap Ok i)
 
 -- ---- `khuyapesh_learn`
 pub learn_short : (a c : ℕ) (q reply o : List ℕ) → length o < field_count → (401, o) ≡ learn_numbers a c q reply o
@@ -94,75 +68,7 @@ module _ (a c : ℕ) (q reply o : List ℕ) (x k : Knowledge) (e : k ≡ exchang
   pub learn_laid : (b : Bool) (d : List ℕ) → not k.alive ≡ false → (b, d) ≡ laid_in k.codes o → (0, d) ≡ learn_numbers a c q reply o
   learn_laid b d alive l = ap (λ (y : List ℕ). (0, y)) (laid-over k.codes o d b room l) ∙ learn_by true (not-false k.alive alive)
 
--- ---- `khuyapesh_may_hold`
-module _ (f s n : ℕ) (b : Bool) (e : b ≡ may_hold f s n) where
-  pub holds_yes : b ≡ true → 1 ≡ may_hold_number f s n
-  holds_yes z = ap flag_number (sym z ∙ e)
-
-  pub holds_no : b ≡ false → 0 ≡ may_hold_number f s n
-  holds_no z = ap flag_number (sym z ∙ e)
-
-pub ruleset holding = (holds_yes, holds_no)
-
--- ---- `reason_numbers`
-module _ (x : WhyNumbers) (i : ℕ) (r : Reason) where
-  pub reason_answered : (n m : ℕ) → r ≡ reason.Answered n → m ≡ n → x ≡ record { answer = 1; place = i; number = m; held = 0; needed = 0 } → why_as x ≡ reason_numbers i r
-  reason_answered n m z f e = ap why_as e ∙ (ap (λ (y : ℕ). (1, (i, (y, (0, 0))))) f ∙ sym (ap (reason_numbers i) z))
-
-  pub reason_unanswered : r ≡ reason.Unanswered → x ≡ record { answer = 2; place = i; number = 0; held = 0; needed = 0 } → why_as x ≡ reason_numbers i r
-  reason_unanswered z e = ap why_as e ∙ sym (ap (reason_numbers i) z)
-
-  pub reason_impossible : r ≡ reason.Impossible → x ≡ record { answer = 3; place = i; number = 0; held = 0; needed = 0 } → why_as x ≡ reason_numbers i r
-  reason_impossible z e = ap why_as e ∙ sym (ap (reason_numbers i) z)
-
-  pub reason_field : (f h n : ℕ) → r ≡ reason.Field f h n → x ≡ record { answer = 4; place = i; number = f; held = h; needed = n } → why_as x ≡ reason_numbers i r
-  reason_field f h n z e = ap why_as e ∙ sym (ap (reason_numbers i) z)
-
-pub ruleset reasoning = (reason_answered, reason_unanswered, reason_impossible, reason_field)
-
--- ---- `cause_numbers`
-module _ (x : WhyNumbers) (w : Cause) where
-  pub cause_refused : (j : Refusal) (n : ℕ) → w ≡ cause.Refused j → n ≡ recording_answer (refusal_number j) → x ≡ record { answer = n; place = 0; number = 0; held = 0; needed = 0 }
-      → why_as x ≡ why_numbers (caused_as w)
-  unfolding why_numbers
-  cause_refused j n z f e = ap why_as e ∙ (ap (λ (y : ℕ). (y, (0, (0, (0, 0))))) f ∙ sym (ap (λ (y : Cause). why_numbers (caused_as y)) z))
-
-  pub cause_fits : (n : ℕ) → w ≡ cause.Fits n → x ≡ record { answer = 0; place = 0; number = 0; held = 0; needed = 0 } → why_as x ≡ why_numbers (caused_as w)
-  unfolding why_numbers
-  cause_fits n z e = ap why_as e ∙ sym (ap (λ (y : Cause). why_numbers (caused_as y)) z)
-
-  pub cause_halted : (i n : ℕ) → w ≡ cause.NotJudged i n → x ≡ record { answer = 5; place = i; number = 0; held = 0; needed = 0 } → why_as x ≡ why_numbers (caused_as w)
-  unfolding why_numbers
-  cause_halted i n z e = ap why_as e ∙ sym (ap (λ (y : Cause). why_numbers (caused_as y)) z)
-
-  pub cause_refuted : (i n : ℕ) (r : Reason) → w ≡ cause.Refuted i n r → why_as x ≡ reason_numbers i r → why_as x ≡ why_numbers (caused_as w)
-  unfolding why_numbers
-  cause_refuted i n r z e = e ∙ sym (ap (λ (y : Cause). why_numbers (caused_as y)) z)
-
-pub ruleset causing = (cause_refused, cause_fits, cause_halted, cause_refuted)
-
--- ---- `khuyapesh_why`
-pub why_told : (bs : List ℕ) (w : Cause) (x : WhyNumbers) → caused_as w ≡ why_of bs → why_as x ≡ why_numbers (caused_as w) → why_as x ≡ why_numbers (why_of bs)
-why_told bs w x e f = f ∙ ap why_numbers e
-
--- ---- `exchange_found` and `khuyapesh_exchange`
-module _ (n : Next) where
-  pub found_end : n ≡ next.End → (1, (0, (0, (0, 0)))) ≡ exchange_numbers n
-  unfolding exchange_numbers
-  found_end z = sym (ap exchange_numbers z)
-
-  pub found_cut : n ≡ next.Cut → (505, (0, (0, (0, 0)))) ≡ exchange_numbers n
-  unfolding exchange_numbers
-  found_cut z = sym (ap exchange_numbers z)
-
-  pub found_whole : (p : Spans) → n ≡ next.Exchange p → (0, (p.request, (p.stop, (p.reply, p.end)))) ≡ exchange_numbers n
-  unfolding exchange_numbers
-  found_whole p z = sym (ap exchange_numbers z)
-
-  pub exchange-told : (x : Found) (m : Next) → n ≡ m → found_as x ≡ exchange_numbers n → found_as x ≡ exchange_numbers m
-  exchange-told x m e f = f ∙ ap exchange_numbers e
-
-pub ruleset finding = (found_end, found_cut, found_whole)
+pub ruleset learning = (learn_short, learn_asked, learn_none, learn_laid)
 
 -- ---- for readers: what the numbers of `khuyapesh_known` tell, where there is room for the sets
 abbrev pub told_in : ℕ × (ℕ × List ℕ) → known.Told

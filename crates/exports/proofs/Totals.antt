@@ -1,5 +1,5 @@
 -- The entries of request L8: one law for each return, and which numbers are answered. Assumes nothing.
-use Prim.Native.Nat.{ℕ, ◌+◌, ◌^◌, ◌≤◌, ◌<◌}
+use Prim.Native.Nat.{ℕ, ◌^◌, ◌≤◌, ◌<◌}
 use mathlib.Core.Bool.{Bool, true, false, not}
 use mathlib.Core.Path.{◌≡◌, refl, sym, ap, subst, ◌∙◌}
 use mathlib.Core.List.{List}
@@ -7,42 +7,25 @@ use mathlib.Core.Logic.{◌⊎◌, inl, inr, ◌↔◌}
 use native.Mathlib.Omega.{arith}
 use lib.Dec.{eqb, leb}
 use lib.ListN.{length}
-use borrow.Author.Tests.{le-leb, lt-leb, eqb-false, not-true, not-false}
+use borrow.Author.Tests.{eqb-false, not-true, not-false}
 use Rattle.base.specs.Test.{unless}
 use Rattle.base.specs.Lists.{over}
 use Rattle.base.proofs.Tests.{by_test}
 use Rattle.base.proofs.FirstFailing.{not_both}
 use Rattle.text.specs.Written.{written_first}
-use Rattle.storedbank.specs.declared.Answer.{Answer as BankAnswer}
+use Rattle.std.specs.Prelude.{Option, Some, None, Result, Ok, Err, is_some}
+use Rattle.std.specs.Option.{unwrap_or}
+use Rattle.storedbank.specs.declared.Refused.{Refused}
 use Rattle.storedbank.specs.StoredBank as storedbank
-use Rattle.totalling.specs.declared.Answer.{Answer}
-use Rattle.totalling.specs.declared.Answer.TheVariants as answer
-use Rattle.totalling.specs.declared.Refusal.{Refusal}
-use Rattle.totalling.specs.declared.Refusal.TheVariants as refusal
-use Rattle.totalling.specs.declared.Totals.{Totals}
-use Rattle.totalling.specs.Totals.{Outcome, room_for, totals_of, refusal_number, answer_number, totals_as, laid_in}
+use Rattle.totalling.specs.Totals.{room_for, totals_of, laid_in}
 use Rattle.totalling.proofs.Theorems.{refused_most}
 use Rattle.sheet.specs.Sheet.{units_text, line_room, room}
 use Rattle.sheet.proofs.Laws.{units_high}
 use Rattle.sheet.proofs.ReadBack.{units-length}
-use Rattle.week.specs.Week.{week_of, week_text, write_of}
+use Rattle.week.specs.Week.{week_of, answer_as, week_text, write_of}
 use Rattle.exports.specs.Bytes.{bank_answer}
 use Rattle.exports.specs.Totals.{totals_answer, unless_short, handed_out, totals_numbers, bank_totals_numbers, units_bytes, text_bytes}
 use Rattle.exports.proofs.InPlace.{Within}
-
--- ---- the numbers that are answered
-pub totals_whole : (a : Answer) → a ≡ answer.Whole → 0 ≡ totals_answer (answer_number a)
-totals_whole a e = sym (ap (λ (x : Answer). totals_answer (answer_number x)) e)
-
-pub totals_refused : (a : Answer) (w : Refusal) (m n : ℕ) → a ≡ answer.Refused w → m ≡ refusal_number w → n ≡ m → 800 + n ≡ totals_answer (answer_number a)
-totals_refused a w m n e f g = ap (λ (x : ℕ). 800 + x) (g ∙ f) ∙ (go w ∙ sym (ap (λ (x : Answer). totals_answer (answer_number x)) e))
-  where
-    go : (w : Refusal) → 800 + refusal_number w ≡ totals_answer (answer_number (answer.Refused w))
-    go refusal.UnequalLengths = refl
-    go refusal.TooMany = refl
-    go refusal.OutOfRange = refl
-
-pub ruleset totals-answers = (totals_whole, totals_refused)
 
 -- ---- sums and numbers that are handed out, or not where there is no room
 module _ (ss cs so co s c : List ℕ) (b : Bool) (e : (b, (s, c)) ≡ laid_in ss cs so co) where
@@ -54,71 +37,76 @@ module _ (ss cs so co s c : List ℕ) (b : Bool) (e : (b, (s, c)) ≡ laid_in ss
   laid-room : b ≡ room_for so co
   laid-room = by_test (room_for so co) (λ h. ap (λ (p : Bool × (List ℕ × List ℕ)). p.0) (by_room true h) ∙ sym h) (λ h. ap (λ (p : Bool × (List ℕ × List ℕ)). p.0) (by_room false h) ∙ sym h)
 
-  none-handed : (n : ℕ) → not b ≡ true → (401, (s, c)) ≡ handed_out n ss cs so co
-  none-handed n h =
+  pub none_handed : (n : ℕ) → not b ≡ true → (401, (s, c)) ≡ handed_out n ss cs so co
+  none_handed n h =
       let k : room_for so co ≡ false = sym laid-room ∙ not-true b h in
       ap (λ (p : Bool × (List ℕ × List ℕ)). (401, p.1)) (by_room false k) ∙ sym (simp k)
 
-  all_handed : (n m : ℕ) → not b ≡ false → m ≡ n → (m, (s, c)) ≡ handed_out n ss cs so co
-  all_handed n m h f =
+  pub all_handed : (n : ℕ) → not b ≡ false → (n, (s, c)) ≡ handed_out n ss cs so co
+  all_handed n h =
       let k : room_for so co ≡ true = sym laid-room ∙ not-false b h in
-      ap (λ (x : ℕ). (x, (s, c))) f ∙ (ap (λ (p : Bool × (List ℕ × List ℕ)). (n, p.1)) e ∙ sym (simp k))
+      ap (λ (p : Bool × (List ℕ × List ℕ)). (n, p.1)) e ∙ sym (simp k)
 
--- `khuyapesh_totals`
-module _ (vs fs rs so co s c : List ℕ) (t : Totals) (b : Bool) (e : totals_as t ≡ totals_of vs fs rs) (f : (b, (s, c)) ≡ laid_in t.sums t.counts so co) where
-  lists_added : handed_out (totals_answer (answer_number t.answer)) t.sums t.counts so co ≡ totals_numbers vs fs rs so co
-  unfolding totals_numbers
-  lists_added = ap (λ (o : Outcome). handed_out (totals_answer o.refused) o.sums o.counts so co) e
-
-  pub totals_short : not b ≡ true → (401, (s, c)) ≡ totals_numbers vs fs rs so co
-  totals_short h = none-handed t.sums t.counts so co s c b f (totals_answer (answer_number t.answer)) h ∙ lists_added
-
-  pub totals_handed : (n : ℕ) → not b ≡ false → n ≡ totals_answer (answer_number t.answer) → (n, (s, c)) ≡ totals_numbers vs fs rs so co
-  totals_handed n h g = all_handed t.sums t.counts so co s c b f (totals_answer (answer_number t.answer)) n h g ∙ lists_added
-
-pub ruleset totals-handing = (totals_short, totals_handed)
-
--- `khuyapesh_bank_totals`
-module _ (bs so co s c : List ℕ) (a : BankAnswer) (t : Totals) (b : Bool) (e : (storedbank.answer_as a, totals_as t) ≡ week_of bs) (f : (b, (s, c)) ≡ laid_in t.sums t.counts so co) where
-  bank_added : handed_out (bank_answer (storedbank.answer_as a)) t.sums t.counts so co ≡ bank_totals_numbers bs so co
-  unfolding bank_totals_numbers
-  bank_added = ap (λ (p : storedbank.Outcome × Outcome). handed_out (bank_answer p.0) p.1.sums p.1.counts so co) e
-
-  pub bank_short : not b ≡ true → (401, (s, c)) ≡ bank_totals_numbers bs so co
-  bank_short h = none-handed t.sums t.counts so co s c b f (bank_answer (storedbank.answer_as a)) h ∙ bank_added
-
-  pub bank_handed : (n : ℕ) → not b ≡ false → n ≡ bank_answer (storedbank.answer_as a) → (n, (s, c)) ≡ bank_totals_numbers bs so co
-  bank_handed n h g = all_handed t.sums t.counts so co s c b f (bank_answer (storedbank.answer_as a)) n h g ∙ bank_added
-
-pub ruleset bank-handing = (bank_short, bank_handed)
+pub ruleset handing = (none_handed, all_handed)
 
 -- `khuyapesh_units`
-pub units-short : (s : ℕ) (o : List ℕ) → length o < line_room → (401, o) ≡ units_bytes s o
-unfolding units_bytes
-units-short s o h = simp (lt-leb _ _ h)
-
-module _ (s n : ℕ) (o o₁ : List ℕ) (h : line_room ≤ length o) (e : (n, o₁) ≡ written_first line_room (units_text s) o) where
-  pub units-written : (n, o₁) ≡ units_bytes s o
-  unfolding units_bytes
-  units-written = e ∙ sym (simp (le-leb _ _ h))
-
-  -- a sum is short
-  pub units_fit : n < 2 ^ 32
+module _ (s : ℕ) (x : Option ℕ) (o o₁ : List ℕ) (e : (unwrap_or x 0, o₁) ≡ written_first line_room (units_text s) o) (room : is_some x ≡ leb line_room (length o)) where
+  units_by : (b : Bool) → leb line_room (length o) ≡ b → ◌≡◌ {A = ℕ × List ℕ} (unwrap_or x 0, o₁) (unless b (0, o) (length (units_text s), over (units_text s) o))
   unfolding written_first
-  units_fit = let z : ◌≡◌ {A = ℕ × List ℕ} (n, o₁) (length (units_text s), over (units_text s) o) = e ∙ simp (le-leb _ _ h) in omega (arith, ap (λ (p : ℕ × List ℕ). p.0) z, units_high s)
+  units_by b h = e ∙ simp h
+
+  pub units_short : x ≡ None → (401, o₁) ≡ units_bytes s o
+  unfolding units_bytes
+  units_short z =
+      let h : leb line_room (length o) ≡ false = sym room ∙ ap is_some z in
+      ap (λ (p : ℕ × List ℕ). (401, p.1)) (units_by false h) ∙ sym (simp h)
+
+  module _ (n : ℕ) (z : x ≡ Some n) where
+    there : leb line_room (length o) ≡ true
+    there = sym room ∙ ap is_some z
+
+    same : ◌≡◌ {A = ℕ} n (unwrap_or x 0)
+    same = sym (ap (λ (y : Option ℕ). unwrap_or y 0) z)
+
+    pub units_written : (n, o₁) ≡ units_bytes s o
+    unfolding units_bytes
+    units_written = ap (λ (m : ℕ). (m, o₁)) same ∙ (e ∙ sym (simp there))
+
+    -- a sum is short
+    pub units_fit : n < 2 ^ 32
+    units_fit = omega (arith, same, ap (λ (p : ℕ × List ℕ). p.0) (units_by true there), units_high s)
+
+pub ruleset units_writing = (units_short, units_written, units_fit)
 
 -- `khuyapesh_totals_text`
-pub text-short : (bs o : List ℕ) → length o < room → (401, (0, o)) ≡ text_bytes bs o
-unfolding text_bytes
-text-short bs o h = simp (lt-leb _ _ h)
+module _ (bs o o₁ : List ℕ) (a : Result (Unit {0}) Refused) (x : Option ℕ) (e : (answer_as a, (unwrap_or x 0, o₁)) ≡ write_of bs o) (filled : is_some x ≡ leb room (length o)) where
+  by_text : (b : Bool) → leb room (length o) ≡ b
+      → ◌≡◌ {A = storedbank.Outcome × (ℕ × List ℕ)} (answer_as a, (unwrap_or x 0, o₁)) ((week_of bs).0, unless b (0, o) (length (week_text bs), over (week_text bs) o))
+  unfolding write_of written_first
+  by_text b h = e ∙ simp h
 
-pub text-written : (bs o o₁ : List ℕ) (a : BankAnswer) (m n : ℕ) → room ≤ length o → (storedbank.answer_as a, (m, o₁)) ≡ write_of bs o
-    → n ≡ bank_answer (storedbank.answer_as a) → (n, (m, o₁)) ≡ text_bytes bs o
-unfolding text_bytes write_of
-text-written bs o o₁ a m n h e f =
-    ap (λ (x : ℕ). (x, (m, o₁))) f ∙ (ap (λ (p : storedbank.Outcome × (ℕ × List ℕ)). (bank_answer p.0, p.1)) e ∙ sym (simp (le-leb _ _ h)))
+  pub text_short : x ≡ None → (401, (0, o₁)) ≡ text_bytes bs o
+  unfolding text_bytes
+  text_short z =
+      let h : leb room (length o) ≡ false = sym filled ∙ ap is_some z in
+      ap (λ (p : storedbank.Outcome × (ℕ × List ℕ)). (401, (0, p.1.1))) (by_text false h) ∙ sym (simp h)
 
-pub ruleset text-writing = (text-short, text-written)
+  module _ (m : ℕ) (z : x ≡ Some m) where
+    text_there : (b : Result (Unit {0}) Refused) → a ≡ b → (bank_answer (answer_as b), (m, o₁)) ≡ text_bytes bs o
+    unfolding text_bytes write_of
+    text_there b f =
+        let h : leb room (length o) ≡ true = sym filled ∙ ap is_some z in
+        ap (λ (y : Result (Unit {0}) Refused). (bank_answer (answer_as y), (m, o₁))) (sym f)
+        ∙ (ap (λ (y : Option ℕ). (bank_answer (answer_as a), (unwrap_or y 0, o₁))) (sym z)
+        ∙ (ap (λ (p : storedbank.Outcome × (ℕ × List ℕ)). (bank_answer p.0, p.1)) e ∙ sym (simp h)))
+
+    pub text_whole : (u : Unit {0}) → a ≡ Ok u → (0, (m, o₁)) ≡ text_bytes bs o
+    text_whole u f = text_there (Ok u) f
+
+    pub text_refused : (u : Refused) → a ≡ Err u → (207, (m, o₁)) ≡ text_bytes bs o
+    text_refused u f = text_there (Err u) f
+
+pub ruleset text_writing = (text_short, text_whole, text_refused)
 
 -- ---- H1 comes exactly where there is no room, and then all is as it was; else one of some numbers is answered
 pub record Roomed {A : Type 0} (room : Bool) (kept : A) (Number : ℕ → Type 0) (x : ℕ × A) : Type 0 where

@@ -1,7 +1,7 @@
 -- include/khuyapesh.h: what each function answers and what every lent byte then is, by the definitions of documents 01 and
 -- 02.
 -- s are the stored bytes, q the request, t a text, f a frame, and o the buffer that is written.
-use Rattle.std.specs.Prelude.{ℕ, ◌+◌, ◌≤◌, Bool, List, [], eqb, leb, length}
+use Rattle.std.specs.Prelude.{ℕ, ◌+◌, ◌≡◌, ◌≤◌, Bool, Option, Some, None, Result, Ok, Err, List, [], eqb, leb, length}
 use Rattle.base.specs.Test.{pick, unless}
 use Rattle.base.specs.Lists.{over}
 use Rattle.state.specs.declared.Record.{Record}
@@ -26,26 +26,25 @@ use Rattle.banked.specs.declared.Banked.{Banked}
 use Rattle.banked.specs.Banked.{with, banked_of}
 use Rattle.banked.specs.Steps.{stored_between}
 use Rattle.several.specs.Beside.{banked_several_of}
-use Rattle.storedboard.specs.declared.Answer as storedboard
-use Rattle.storedboard.specs.declared.Answer.TheVariants as answer
+use Rattle.board.specs.Board as board
 use Rattle.board.specs.Board.{answer_length}
 use Rattle.storedboard.specs.StoredBoard.{Left, left_as, stored_board_of}
 use Rattle.drum.specs.Drum.{Told, Q, short, request, end, stop}
 use Rattle.drumstate.specs.State as drumstate
 use Rattle.recording.specs.Replay.{fits, refuted, not_judged}
 use Rattle.recording.specs.Statement.{Judgement, judged, refused, asks}
-use Rattle.recording.specs.declared.Next.{Next}
-use Rattle.recording.specs.declared.Next.TheVariants as next
+use Rattle.recording.specs.declared.Spans.{Spans}
+use Rattle.recording.specs.declared.Refusal as recording
+use Rattle.recording.specs.Form.{refusal_number}
 use Rattle.knowledge.specs.declared.Knowledge.{Knowledge}
 use Rattle.knowledge.specs.Knowledge.{room_for, lent_in, may_hold}
 use Rattle.hearing.specs.Hearing.{exchange, exchange_learnt}
 use Rattle.reason.specs.declared.Reason.{Reason}
 use Rattle.reason.specs.declared.Reason.TheVariants as reason
 use Rattle.judging.specs.Judge.{Telling, unread, broken, halted, sets, known_of, Caused, unexplained, fitting, unjudged, because}
-use Rattle.exports.specs.declared.Numbers.{Numbers}
+use Rattle.several.specs.declared.Report.{Report}
+use Rattle.stored.specs.declared.Refusal.{Refusal}
 use Rattle.exports.specs.declared.WhyNumbers.{WhyNumbers}
-use Rattle.exports.specs.declared.Found.{Found}
-use Rattle.exports.specs.declared.Opened.{Opened}
 
 -- ---- the numbers
 
@@ -107,6 +106,11 @@ open_read (a, r) room = (open_answer a room, r)
 unfoldable pub open_of : List ℕ → ℕ × Record
 open_of s = open_read (stored.read_of s) (has_room s)
 
+-- the code's: what was opened, or the answer of a refusal
+abbrev pub Opened : {S : Type 0} → Result S ℕ → ℕ × S → Type 0
+Opened (Ok r) x = x ≡ (0, r)
+Opened (Err n) x = (x.0 ≡ n) × (n ≡ 0 → ⊥)
+
 -- what a refusal leaves, by its answer, or what is done with what was opened
 abbrev pub in_place : {A S : Type 0} → ℕ × S → (ℕ → A) → (S → A) → A
 in_place (n, r) refusal on = pick (eqb n 0) (on r) (refusal n)
@@ -140,12 +144,18 @@ pub record SeveralLeft : Type 0 where
 abbrev pub several_numbers : ℕ → ℕ → ℕ → ℕ → List ℕ → List ℕ → SeveralLeft
 several_numbers n p a u s o = record { answer = n; taken = p; answered = a; written = u; stored = s; reply = o }
 
-abbrev pub several_as : Numbers → List ℕ → List ℕ → SeveralLeft
-several_as x s o = several_numbers x.answer x.report.taken x.report.answered x.report.written s o
-
 -- "the three numbers are 0 and nothing else is changed"
 abbrev pub nothing_taken : ℕ → List ℕ → List ℕ → SeveralLeft
 nothing_taken n s o = several_numbers n 0 0 0 s o
+
+abbrev pub several_as : Result Report ℕ → List ℕ → List ℕ → SeveralLeft
+several_as (Ok p) s o = several_numbers 0 p.taken p.answered p.written s o
+several_as (Err n) s o = nothing_taken n s o
+
+-- the code's answer and what is reported
+abbrev pub reported_as : Result Report ℕ → ℕ × (ℕ × (ℕ × ℕ))
+reported_as (Ok p) = (0, (p.taken, (p.answered, p.written)))
+reported_as (Err n) = (n, (0, (0, 0)))
 
 unfoldable pub several_left : Several → List ℕ → List ℕ → SeveralLeft
 several_left c s o =
@@ -168,9 +178,6 @@ bank_answer storedbank.done = 0
 unfoldable pub open_banked : List ℕ → List ℕ → ℕ × Banked
 open_banked s b =
     (unless (eqb (open_of s).0 0) (open_of s).0 (bank_answer (storedbank.open_of b).0), with (open_of s).1 (storedbank.open_of b).1)
-
-abbrev pub opened_as : Opened → ℕ × Banked
-opened_as x = (x.answer, x.held)
 
 -- "the bank after it in its place": where a batch was stored it is written over the start of the bytes, and else it stands there
 abbrev pub bank_left : Banked → Banked → List ℕ → List ℕ
@@ -230,12 +237,12 @@ unfoldable pub board_bytes : ℕ → List ℕ → List ℕ → List ℕ → ℕ 
 board_bytes kind s q o = unless (is_kind kind) (no_such, (s, o)) (board_left (stored_board_of (kind_of kind) s q o))
 
 -- what the code's answer alone tells, and that a number has room for it
-abbrev pub answer_left : storedboard.Answer → Left
+abbrev pub answer_left : Result board.Answer Refusal → Left
 answer_left a = left_as a [] []
 
-abbrev pub Tellable : storedboard.Answer → Type 0
-Tellable (answer.Refused n) = 1 ≤ n
-Tellable (answer.Called a) = answer_length a ≤ 64
+abbrev pub Tellable : Result board.Answer Refusal → Type 0
+Tellable (Err k) = Unit {0}
+Tellable (Ok a) = answer_length a ≤ 64
 
 -- ---- khuyapesh_panel: the answer and the stored bytes
 
@@ -329,10 +336,7 @@ why_numbers (unjudged i n) = (5, (i, (0, (0, 0))))
 why_numbers (because i n why) = reason_numbers i why
 
 -- ---- khuyapesh_exchange: the answer, and where the request and the reply are
-unfoldable pub exchange_numbers : Next → ℕ × (ℕ × (ℕ × (ℕ × ℕ)))
-exchange_numbers next.End = (1, (0, (0, (0, 0))))
-exchange_numbers next.Cut = (recording_answer 5, (0, (0, (0, 0))))
-exchange_numbers (next.Exchange p) = (0, (p.request, (p.stop, (p.reply, p.end))))
-
-abbrev pub found_as : Found → ℕ × (ℕ × (ℕ × (ℕ × ℕ)))
-found_as x = (x.answer, (x.spans.request, (x.spans.stop, (x.spans.reply, x.spans.end))))
+unfoldable pub exchange_numbers : Result (Option Spans) recording.Refusal → ℕ × (ℕ × (ℕ × (ℕ × ℕ)))
+exchange_numbers (Ok None) = (1, (0, (0, (0, 0))))
+exchange_numbers (Err k) = (recording_answer (refusal_number k), (0, (0, (0, 0))))
+exchange_numbers (Ok (Some p)) = (0, (p.request, (p.stop, (p.reply, p.end))))

@@ -1,40 +1,40 @@
 // The functions of include/khuyapesh.h, for C and Rust: bytes and numbers in, bytes and numbers out.
 #![tactic(auto)]
 
-ghost use Rattle.std.specs.Prelude.{◌≡◌, ◌≤◌, leb};
-ghost use Rattle.stored.specs.Layout.{current};
-ghost use Rattle.stored.specs.Form.{K, refusal_number, answer_as, stored_length};
+ghost use Rattle.std.specs.Prelude.{◌≡◌, ◌≤◌, Some, None};
+ghost use Rattle.base.specs.Test.{pick};
+ghost use Rattle.stored.specs.Form.{K, refusal_number};
 ghost use Rattle.frame.specs.Numbers.{silence_number, length_in, built_as, read_as};
 ghost use Rattle.controller.specs.Call.{answer_silence, answer_length, call_of};
 ghost use Rattle.several.specs.Several.{several_of};
 ghost use Rattle.several.specs.Beside.{banked_several_of};
 ghost use Rattle.banked.specs.Banked.{banked_of};
-ghost use Rattle.storedbank.specs.StoredBank.{answer_as as bank_read_as};
 ghost use Rattle.drum.specs.Numbers.{told_as};
 ghost use Rattle.drum.specs.Turns.{size_told};
 ghost use Rattle.drumstate.specs.State.{begin_of, take_of};
 ghost use Rattle.recording.specs.Form as form;
 ghost use Rattle.recording.specs.Form.{exchange_at};
 ghost use Rattle.judging.specs.Judge.{judgement_of, caused_as, why_of};
-ghost use Rattle.totalling.specs.Totals.{answer_number};
+ghost use Rattle.totalling.specs.Totals.{refusal_number as totals_number};
 ghost use Rattle.modbus.specs.Numbers.{silence_number as modbus_number};
 ghost use Rattle.modbus.specs.Call.{modbus_of};
 ghost use Rattle.exports.specs.Modbus.{modbus_silence, modbus_left, modbus_bytes, banked_modbus_bytes};
-ghost use Rattle.exports.specs.Totals.{totals_answer, totals_numbers, bank_totals_numbers, units_bytes, text_bytes};
-ghost use Rattle.exports.specs.Bytes.{silence_answer, stored_answer, recording_answer, host_answer, kind_of, event_of, open_answer, open_of, call_left, call_bytes, several_numbers, several_as, several_left, several_bytes, bank_answer, open_banked, opened_as, saved_bank, banked_left, banked_bytes, banked_several_left, banked_several_bytes, bank_bytes, heard_answer, board_answer, answer_left, Tellable, board_bytes, panel_bytes, stored_bytes, build_bytes, read_bytes, drum_answer, drum_left, judge_numbers, known_numbers, learn_numbers, may_hold_number, why_as, reason_numbers, why_numbers, found_as, exchange_numbers};
+ghost use Rattle.exports.specs.Totals.{totals_answer, handed_out, totals_numbers, bank_totals_numbers, units_bytes, text_bytes};
+ghost use Rattle.exports.specs.Bytes.{silence_answer, stored_answer, recording_answer, host_answer, is_event, event_of, Opened, open_of, call_left, call_bytes, several_numbers, reported_as, several_as, several_left, several_bytes, open_banked, saved_bank, banked_left, banked_bytes, banked_several_left, banked_several_bytes, bank_bytes, heard_answer, board_answer, answer_left, Tellable, board_bytes, panel_bytes, stored_bytes, build_bytes, read_bytes, drum_answer, drum_left, judge_numbers, known_numbers, learn_numbers, may_hold_number, why_as, reason_numbers, why_numbers, exchange_numbers};
 
 use bank::Bank;
 use banked::Banked;
-use controller::Answer;
-use frame::{Built, Kind, Silence, TextRead};
+use controller::{Answer, Called};
+use frame::{BuildRefusal, Kind, ReadRefusal, Silence};
+use hearing::{Exchange, Link};
 use judging::{Cause, Judgement, Told};
 use knowledge::FIELDS;
 use reason::Reason;
-use recording::{Next, Spans};
+use recording::Spans;
 use several::Report;
 use state::{Event, Record};
 use stored::{Refusal, STORED_LENGTH};
-use storedbank::Written;
+use totalling::{NOTHING, Totals};
 
 // ---- the numbers that are answered
 
@@ -67,11 +67,6 @@ const MODBUS: u32 = 900;
 // Added there to the answer of a refusal of stored bytes, which could else be a reply's length.
 const ABOVE_LENGTHS: u32 = 1000;
 
-// The highest numbers of a kind and of an event.
-const LAST_KIND: u8 = 1;
-
-const LAST_EVENT: u8 = 6;
-
 // No room for the form that is written.
 const NO_ROOM: u32 = STORED + 6;
 
@@ -81,62 +76,71 @@ const NO_BANK: u32 = STORED + 7;
 // No room for what is handed out: sets, sums or text.
 const SHORT_BUFFER: u32 = HOST + 1;
 
-// An exchange that is cut by the end.
-const CUT: u32 = RECORDING + 5;
+// What stands beside a refusal.
+const NOTHING_TAKEN: Report = Report {
+    taken: 0,
+    answered: 0,
+    written: 0,
+};
 
+const NOWHERE: Spans = Spans {
+    request: 0,
+    stop: 0,
+    reply: 0,
+    end: 0,
+};
+
+// The answers of silences and refusals. Not one function over the class and the type: each is one line, and its contract names its definition.
 fn silence_answer(why: Silence) -> u32
     ensures { result ≡ silence_answer (silence_number why) }
 {
-    SILENT + base::wide(frame::number_of(why))
+    SILENT + u32::from(u8::from(why))
 }
 
 fn modbus_answer(why: modbus::Silence) -> u32
     ensures { result ≡ modbus_silence (modbus_number why) }
 {
-    MODBUS + base::wide(modbus::number_of(why))
+    MODBUS + u32::from(u8::from(why))
 }
 
 fn refusal_answer(why: Refusal) -> u32
     ensures { result ≡ stored_answer (K (refusal_number why)) }
 {
-    STORED + base::wide(stored::number_of(why))
+    STORED + u32::from(u8::from(why))
 }
 
 fn recording_answer(why: recording::Refusal) -> u32
     ensures { result ≡ recording_answer (form.refusal_number why) }
 {
-    RECORDING + base::wide(recording::number_of(why))
+    RECORDING + u32::from(u8::from(why))
 }
 
-fn stored_answer(read: stored::Answer) -> u32
-    ensures { result ≡ stored_answer (answer_as read) }
+fn totals_answer(why: totalling::Refusal) -> u32
+    ensures { result ≡ totals_answer (totals_number why) }
 {
-    match read {
-        stored::Answer::Whole => 0,
-        stored::Answer::Refused(why) => refusal_answer(why),
-    }
+    TOTALS + u32::from(u8::from(why))
 }
 
-fn built_answer(built: Built) -> u32
+fn built_answer(built: Result<usize, BuildRefusal>) -> u32
     requires { length_in (built_as built) ≤ 64 }
     ensures { result ≡ host_answer (built_as built) }
 {
     match built {
-        Built::ShortBuffer => HOST + 1,
-        Built::TextLength => HOST + 2,
-        Built::TextByte => HOST + 3,
-        Built::Frame(n) => n as u32,
+        Err(BuildRefusal::ShortBuffer) => HOST + 1,
+        Err(BuildRefusal::TextLength) => HOST + 2,
+        Err(BuildRefusal::TextByte) => HOST + 3,
+        Ok(n) => n as u32,
     }
 }
 
-fn text_answer(read: TextRead) -> u32
+fn text_answer(read: Result<usize, ReadRefusal>) -> u32
     requires { length_in (read_as read) ≤ 64 }
     ensures { result ≡ host_answer (read_as read) }
 {
     match read {
-        TextRead::ShortBuffer => HOST + 1,
-        TextRead::Silent(why) => silence_answer(why),
-        TextRead::Text(n) => n as u32,
+        Err(ReadRefusal::ShortBuffer) => HOST + 1,
+        Err(ReadRefusal::Silent(why)) => silence_answer(why),
+        Ok(n) => n as u32,
     }
 }
 
@@ -145,8 +149,8 @@ fn call_answer(called: Answer) -> u32
     ensures { result ≡ heard_answer (answer_silence called) (answer_length called) }
 {
     match called {
-        Answer::Silent(why) => silence_answer(why),
-        Answer::Reply(n) => n as u32,
+        Err(why) => silence_answer(why),
+        Ok(n) => n as u32,
     }
 }
 
@@ -155,11 +159,9 @@ fn board_answer(answer: storedboard::Answer) -> u32
     ensures { result ≡ board_answer (answer_left answer) }
 {
     match answer {
-        storedboard::Answer::Refused(n) => STORED + base::wide(n),
-        storedboard::Answer::Called(called) => match called {
-            board::Answer::Refused(why) => SILENT + base::wide(board::number_of(why)),
-            board::Answer::Called(one) => call_answer(one),
-        },
+        Err(why) => refusal_answer(why),
+        Ok(Err(refusal)) => SILENT + u32::from(u8::from(refusal)),
+        Ok(Ok(called)) => call_answer(called),
     }
 }
 
@@ -168,54 +170,55 @@ fn drum_answer(answer: drum::Answer) -> u32
     ensures { result ≡ drum_answer (told_as answer) }
 {
     match answer {
-        drum::Answer::Refused(why) => DRUM + base::wide(drum::number_of(why)),
-        drum::Answer::ShortBuffer => HOST + 1,
+        drum::Answer::Refused(why) => DRUM + u32::from(u8::from(why)),
+        drum::Answer::ShortBuffer => SHORT_BUFFER,
         drum::Answer::Request(n) => n as u32,
         drum::Answer::Ended => 0,
-        drum::Answer::Stopped(step) => STOPPED + base::wide(step),
+        drum::Answer::Stopped(step) => STOPPED + u32::from(step),
     }
 }
 
 // ---- the numbers that are taken
 
-fn kind_of(kind: u8) -> Kind
-    ensures { result ≡ kind_of kind }
-{
-    if kind == 0 {
-        return Kind::Minicomputer;
-    }
-    Kind::Terminal
-}
-
-fn event_of(event: u8, number: u16) -> Event
-    ensures { result ≡ event_of event number }
+// The event of a number, if there is one.
+fn event_of(event: u8, number: u16) -> Option<Event>
+    ensures { result ≡ pick (is_event event) (Some (event_of event number)) None }
 {
     match event {
-        0 => Event::Pulses(number),
-        1 => Event::Still,
-        2 => Event::KeypadOn,
-        3 => Event::KeypadOff,
-        4 => Event::PowerBack,
-        5 => Event::AlarmOn(number),
-        _ => Event::AlarmOff(number),
+        0 => Some(Event::Pulses(number)),
+        1 => Some(Event::Still),
+        2 => Some(Event::KeypadOn),
+        3 => Some(Event::KeypadOff),
+        4 => Some(Event::PowerBack),
+        5 => Some(Event::AlarmOn(number)),
+        6 => Some(Event::AlarmOff(number)),
+        _ => None,
     }
 }
 
-// ---- a record that is lent to be written in its place
+// ---- what is lent to be written in its place: opened, or the answer of a refusal
 
-// 0, or the answer of a refusal, by what was read of as many stored bytes.
-fn open_answer(read: stored::Answer, length: usize) -> u32
-    ensures { result ≡ open_answer (answer_as read) (leb (stored_length current) length) }
+// The record that the stored bytes are, whose form has room in their place.
+fn open_record(stored: &[u8]) -> Result<Record, u32>
+    ensures { Opened result (open_of stored.now) }
 {
-    match read {
-        stored::Answer::Whole => {
-            if length < STORED_LENGTH {
-                return NO_ROOM;
-            }
-            0
-        }
-        stored::Answer::Refused(why) => refusal_answer(why),
+    match stored::read(stored) {
+        Err(why) => Err(refusal_answer(why)),
+        Ok(_) if stored.len() < STORED_LENGTH => Err(NO_ROOM),
+        Ok(record) => Ok(record),
     }
+}
+
+// The record and the bank that the stored bytes are.
+#[tactic(auto, using(crate::proofs::Banks::banks_opening))]
+fn open_banked(stored: &[u8], bank: &[u8]) -> Result<Banked, u32>
+    ensures { Opened result (open_banked stored.now bank.now) }
+{
+    let state = open_record(stored)?;
+    let Ok(bank) = storedbank::open(bank) else {
+        return Err(NO_BANK);
+    };
+    Ok(Banked { state, bank })
 }
 
 // ---- the controller
@@ -231,13 +234,11 @@ fn call_record(
     requires { open_of stored.old ≡ (0, before) }
     ensures { (result, (stored.new, reply.new)) ≡ call_left (call_of kind before request.now reply.old) stored.old reply.old }
 {
-    let called = kept::lend_to_call(kind, before, request, reply);
-    let answer = called.answer;
-    let after = called.after;
+    let Called { answer, after } = kept::lend_to_call(kind, before, request, reply);
     match answer {
-        Answer::Silent(why) => silence_answer(why),
-        Answer::Reply(n) => {
-            stored::write(after, stored);
+        Err(why) => silence_answer(why),
+        Ok(n) => {
+            stored::write(after, stored).unwrap();
             n as u32
         }
     }
@@ -253,74 +254,68 @@ pub extern "C" fn khuyapesh_call(
 ) -> u32
     ensures { (result, (stored.new, reply.new)) ≡ call_bytes kind stored.old request.now reply.old }
 {
-    if LAST_KIND < kind {
+    let Ok(kind) = Kind::try_from(kind) else {
         return NO_SUCH;
-    }
-    let reading = stored::read(stored);
-    let read = reading.answer;
-    let before = reading.record;
-    let answer = open_answer(read, stored.len());
-    if answer != 0 {
-        return answer;
-    }
-    call_record(kind_of(kind), before, stored, request, reply)
-}
-
-// The answer, and what is reported.
-#[derive(Clone, Copy)]
-struct Numbers {
-    pub answer: u32,
-    pub report: Report,
-}
-
-// Nothing is taken.
-fn nothing_taken(answer: u32) -> Numbers
-    ensures { result ≡ record { answer = answer; report = record { taken = 0; answered = 0; written = 0 } } }
-{
-    Numbers {
-        answer: answer,
-        report: Report {
-            taken: 0,
-            answered: 0,
-            written: 0,
-        },
-    }
+    };
+    let before = match open_record(stored) {
+        Ok(before) => before,
+        Err(answer) => return answer,
+    };
+    call_record(kind, before, stored, request, reply)
 }
 
 // Several frames on the record that the stored bytes are.
-fn several_record(before: Record, stored: &mut [u8], bytes: &[u8], reply: &mut [u8]) -> Numbers
+fn several_record(
+    before: Record,
+    stored: &mut [u8],
+    bytes: &[u8],
+    reply: &mut [u8],
+) -> Result<Report, u32>
     requires { open_of stored.old ≡ (0, before) }
     ensures { several_as result stored.new reply.new ≡ several_left (several_of before bytes.now reply.old) stored.old reply.old }
 {
-    let called = several::call(before, bytes, reply);
-    let answer = called.answer;
-    let last = called.after;
+    let Called {
+        answer,
+        after: last,
+    } = several::call(before, bytes, reply);
     match answer {
-        several::Answer::Silent(why) => nothing_taken(silence_answer(why)),
-        several::Answer::Served(report) => {
-            stored::write(last, stored);
-            Numbers {
-                answer: 0,
-                report: report,
-            }
+        Err(why) => Err(silence_answer(why)),
+        Ok(report) => {
+            stored::write(last, stored).unwrap();
+            Ok(report)
         }
     }
 }
 
-fn several_stored(stored: &mut [u8], bytes: &[u8], reply: &mut [u8]) -> Numbers
+#[tactic(auto, using(crate::proofs::Steps::taking))]
+fn several_stored(stored: &mut [u8], bytes: &[u8], reply: &mut [u8]) -> Result<Report, u32>
     ensures { several_as result stored.new reply.new ≡ several_bytes stored.old bytes.now reply.old }
 {
-    let reading = stored::read(stored);
-    let read = reading.answer;
-    let before = reading.record;
-    let answer = open_answer(read, stored.len());
-    if answer != 0 {
-        return nothing_taken(answer);
-    }
+    let before = open_record(stored)?;
     several_record(before, stored, bytes, reply)
 }
 
+// Hands out what is reported: nothing beside the answer of a refusal.
+fn hand_out(
+    served: Result<Report, u32>,
+    taken: &mut usize,
+    answered: &mut usize,
+    written: &mut usize,
+) -> u32
+    ensures { reported_as served ≡ (result, (taken.new, (answered.new, written.new))) }
+{
+    let (answer, report) = match served {
+        Ok(report) => (0, report),
+        Err(answer) => (answer, NOTHING_TAKEN),
+    };
+    *taken = report.taken;
+    *answered = report.answered;
+    *written = report.written;
+    answer
+}
+
 // All minicomputer frames in the lent bytes.
+#[tactic(auto, using(crate::proofs::Steps::handed_out))]
 #[unsafe(no_mangle)]
 pub extern "C" fn khuyapesh_several(
     stored: &mut [u8],
@@ -332,69 +327,28 @@ pub extern "C" fn khuyapesh_several(
 ) -> u32
     ensures { several_numbers result taken.new answered.new written.new stored.new reply.new ≡ several_bytes stored.old bytes.now reply.old }
 {
-    let numbers = several_stored(stored, bytes, reply);
-    let report = numbers.report;
-    *taken = report.taken;
-    *answered = report.answered;
-    *written = report.written;
-    numbers.answer
+    hand_out(
+        several_stored(stored, bytes, reply),
+        taken,
+        answered,
+        written,
+    )
 }
 
 // ---- with a bank beside the record
-
-// 0, or the answer of a refusal, and what is held.
-#[derive(Clone, Copy)]
-struct Opened {
-    pub answer: u32,
-    pub held: Banked,
-}
-
-fn bank_answer(read: storedbank::Answer) -> u32
-    ensures { result ≡ bank_answer (bank_read_as read) }
-{
-    match read {
-        storedbank::Answer::Whole => 0,
-        storedbank::Answer::Refused => NO_BANK,
-    }
-}
-
-// The record and the bank that the stored bytes are.
-fn open_banked(stored: &[u8], bank: &[u8]) -> Opened
-    ensures { opened_as result ≡ open_banked stored.now bank.now }
-{
-    let reading = stored::read(stored);
-    let read = reading.answer;
-    let record = reading.record;
-    let opening = storedbank::open(bank);
-    let opened = opening.answer;
-    let kept = opening.bank;
-    let held = Banked {
-        state: record,
-        bank: kept,
-    };
-    let answer = open_answer(read, stored.len());
-    if answer != 0 {
-        return Opened {
-            answer: answer,
-            held: held,
-        };
-    }
-    Opened {
-        answer: bank_answer(opened),
-        held: held,
-    }
-}
 
 // Writes the bank in its place if a batch was stored; else it stands there.
 fn save_bank(before: Record, after: Record, batches: Bank, bank: &mut [u8])
     ensures { bank.new ≡ saved_bank before after batches bank.old }
 {
     if banked::stores(before, after) {
-        storedbank::write(batches, bank);
+        // Refused for no bank that was opened.
+        let _ = storedbank::write(batches, bank);
     }
 }
 
-// One call on what the stored bytes and the bank are.
+// One call on what the stored bytes and the bank are. Not one function with call_record: which bytes are written back is all that either does
+// beside the call.
 fn banked_record(
     kind: Kind,
     before: Banked,
@@ -406,23 +360,19 @@ fn banked_record(
     requires { open_banked stored.old bank.old ≡ (0, before) }
     ensures { (result, (stored.new, (bank.new, reply.new))) ≡ banked_left before (banked_of kind before request.now reply.old) stored.old bank.old reply.old }
 {
-    let called = kept::lend_to_banked_call(kind, before, request, reply);
-    let answer = called.answer;
-    let after = called.after;
+    let Called { answer, after } = kept::lend_to_call(kind, before, request, reply);
     match answer {
-        Answer::Silent(why) => silence_answer(why),
-        Answer::Reply(n) => {
-            let old = before.state;
-            let new = after.state;
-            let batches = after.bank;
-            save_bank(old, new, batches, bank);
-            stored::write(new, stored);
+        Err(why) => silence_answer(why),
+        Ok(n) => {
+            save_bank(before.state, after.state, after.bank, bank);
+            stored::write(after.state, stored).unwrap();
             n as u32
         }
     }
 }
 
 // One call of the controller with a bank.
+#[tactic(auto, using(crate::proofs::Banks::banked_serving))]
 #[unsafe(no_mangle)]
 pub extern "C" fn khuyapesh_banked_call(
     kind: u8,
@@ -433,58 +383,53 @@ pub extern "C" fn khuyapesh_banked_call(
 ) -> u32
     ensures { (result, (stored.new, (bank.new, reply.new))) ≡ banked_bytes kind stored.old bank.old request.now reply.old }
 {
-    if LAST_KIND < kind {
+    let Ok(kind) = Kind::try_from(kind) else {
         return NO_SUCH;
-    }
-    let opened = open_banked(stored, bank);
-    let before = opened.held;
-    if opened.answer != 0 {
-        return opened.answer;
-    }
-    banked_record(kind_of(kind), before, stored, bank, request, reply)
+    };
+    let before = match open_banked(stored, bank) {
+        Ok(before) => before,
+        Err(answer) => return answer,
+    };
+    banked_record(kind, before, stored, bank, request, reply)
 }
 
-// Several frames on what the stored bytes and the bank are.
+// Several frames on what the stored bytes and the bank are, and again what is written back.
 fn banked_several(
     before: Banked,
     stored: &mut [u8],
     bank: &mut [u8],
     bytes: &[u8],
     reply: &mut [u8],
-) -> Numbers
+) -> Result<Report, u32>
     requires { open_banked stored.old bank.old ≡ (0, before) }
     ensures { (several_as result stored.new reply.new, bank.new) ≡ banked_several_left (banked_several_of before bytes.now reply.old) stored.old bank.old reply.old }
 {
-    let called = several::call_banked(before, bytes, reply);
-    let answer = called.answer;
-    let after = called.after;
-    let last = after.state;
-    let batches = after.bank;
+    let Called { answer, after } = several::call(before, bytes, reply);
     match answer {
-        several::Answer::Silent(why) => nothing_taken(silence_answer(why)),
-        several::Answer::Served(report) => {
-            stored::write(last, stored);
-            storedbank::write(batches, bank);
-            Numbers {
-                answer: 0,
-                report: report,
-            }
+        Err(why) => Err(silence_answer(why)),
+        Ok(report) => {
+            stored::write(after.state, stored).unwrap();
+            storedbank::write(after.bank, bank).unwrap();
+            Ok(report)
         }
     }
 }
 
-fn banked_stored(stored: &mut [u8], bank: &mut [u8], bytes: &[u8], reply: &mut [u8]) -> Numbers
+#[tactic(auto, using(crate::proofs::Banks::banked_taking))]
+fn banked_stored(
+    stored: &mut [u8],
+    bank: &mut [u8],
+    bytes: &[u8],
+    reply: &mut [u8],
+) -> Result<Report, u32>
     ensures { (several_as result stored.new reply.new, bank.new) ≡ banked_several_bytes stored.old bank.old bytes.now reply.old }
 {
-    let opened = open_banked(stored, bank);
-    let before = opened.held;
-    if opened.answer != 0 {
-        return nothing_taken(opened.answer);
-    }
+    let before = open_banked(stored, bank)?;
     banked_several(before, stored, bank, bytes, reply)
 }
 
 // All minicomputer frames in the lent bytes, with a bank.
+#[tactic(auto, using(crate::proofs::Banks::banked_handed))]
 #[unsafe(no_mangle)]
 pub extern "C" fn khuyapesh_banked_several(
     stored: &mut [u8],
@@ -497,12 +442,12 @@ pub extern "C" fn khuyapesh_banked_several(
 ) -> u32
     ensures { (several_numbers result taken.new answered.new written.new stored.new reply.new, bank.new) ≡ banked_several_bytes stored.old bank.old bytes.now reply.old }
 {
-    let numbers = banked_stored(stored, bank, bytes, reply);
-    let report = numbers.report;
-    *taken = report.taken;
-    *answered = report.answered;
-    *written = report.written;
-    numbers.answer
+    hand_out(
+        banked_stored(stored, bank, bytes, reply),
+        taken,
+        answered,
+        written,
+    )
 }
 
 // Reads a stored bank and writes what was read; the empty one beside a refusal.
@@ -510,29 +455,32 @@ pub extern "C" fn khuyapesh_banked_several(
 pub extern "C" fn khuyapesh_bank(bank: &[u8], out: &mut [u8]) -> u32
     ensures { (result, out.new) ≡ bank_bytes bank.now out.old }
 {
-    let reading = storedbank::read(bank);
-    let answer = reading.answer;
-    let read = reading.bank;
-    match storedbank::write(read, out) {
-        // never, since what is read is valid
-        Written::InvalidBank => NO_ROOM,
-        Written::ShortBuffer => NO_ROOM,
-        Written::Whole => bank_answer(answer),
+    match storedbank::read(bank) {
+        Ok(read) => match storedbank::write(read, out) {
+            Ok(()) => 0,
+            Err(_) => NO_ROOM,
+        },
+        Err(_) => match storedbank::write(bank::empty(), out) {
+            Ok(()) => NO_BANK,
+            Err(_) => NO_ROOM,
+        },
     }
 }
 
 // ---- week totals
 
-fn totals_answer(answer: totalling::Answer) -> u32
-    ensures { result ≡ totals_answer (answer_number answer) }
+// Hands out sums and counts, beside the answer that goes with them, or tells that there is no room.
+fn hand_out_totals(answer: u32, totals: Totals, sums: &mut [u64], counts: &mut [u32]) -> u32
+    ensures { (result, (sums.new, counts.new)) ≡ handed_out answer totals.sums totals.counts sums.old counts.old }
 {
-    match answer {
-        totalling::Answer::Whole => 0,
-        totalling::Answer::Refused(why) => TOTALS + base::wide(totalling::number_of(why)),
+    if !totalling::lay(totals, sums, counts) {
+        return SHORT_BUFFER;
     }
+    answer
 }
 
 // Adds up the batches of three lists.
+#[tactic(auto, unfolding(crate::specs::Totals::totals_numbers))]
 #[unsafe(no_mangle)]
 pub extern "C" fn khuyapesh_totals(
     raws: &[u32],
@@ -543,26 +491,22 @@ pub extern "C" fn khuyapesh_totals(
 ) -> u32
     ensures { (result, (sums.new, counts.new)) ≡ totals_numbers raws.now factors.now recipes.now sums.old counts.old }
 {
-    let totals = totalling::add_up(raws, factors, recipes);
-    let answer = totals.answer;
-    if !totalling::lay(totals, sums, counts) {
-        return SHORT_BUFFER;
+    match totalling::add_up(raws, factors, recipes) {
+        Ok(totals) => hand_out_totals(0, totals, sums, counts),
+        Err(why) => hand_out_totals(totals_answer(why), NOTHING, sums, counts),
     }
-    totals_answer(answer)
 }
 
 // Adds up the batches of a stored bank.
+#[tactic(auto, unfolding(crate::specs::Totals::bank_totals_numbers))]
 #[unsafe(no_mangle)]
 pub extern "C" fn khuyapesh_bank_totals(bank: &[u8], sums: &mut [u64], counts: &mut [u32]) -> u32
     ensures { (result, (sums.new, counts.new)) ≡ bank_totals_numbers bank.now sums.old counts.old }
 {
-    let added = week::add_up(bank);
-    let answer = added.answer;
-    let totals = added.totals;
-    if !totalling::lay(totals, sums, counts) {
-        return SHORT_BUFFER;
+    match week::add_up(bank) {
+        Ok(totals) => hand_out_totals(0, totals, sums, counts),
+        Err(_) => hand_out_totals(NO_BANK, NOTHING, sums, counts),
     }
-    bank_answer(answer)
 }
 
 // Writes a sum in units.
@@ -570,10 +514,10 @@ pub extern "C" fn khuyapesh_bank_totals(bank: &[u8], sums: &mut [u64], counts: &
 pub extern "C" fn khuyapesh_units(sum: u64, out: &mut [u8]) -> u32
     ensures { (result, out.new) ≡ units_bytes sum out.old }
 {
-    if out.len() < sheet::LINE_ROOM {
+    let Some(written) = sheet::write_units(sum, out) else {
         return SHORT_BUFFER;
-    }
-    sheet::write_units(sum, out) as u32
+    };
+    written as u32
 }
 
 // Writes what the program `totals` writes for a stored bank.
@@ -581,19 +525,22 @@ pub extern "C" fn khuyapesh_units(sum: u64, out: &mut [u8]) -> u32
 pub extern "C" fn khuyapesh_totals_text(bank: &[u8], out: &mut [u8], written: &mut usize) -> u32
     ensures { (result, (written.new, out.new)) ≡ text_bytes bank.now out.old }
 {
-    if out.len() < sheet::ROOM {
+    let printed = week::write(bank, out);
+    let Some(length) = printed.written else {
         *written = 0;
         return SHORT_BUFFER;
+    };
+    *written = length;
+    match printed.answer {
+        Ok(()) => 0,
+        Err(_) => NO_BANK,
     }
-    let printed = week::write(bank, out);
-    let answer = printed.answer;
-    *written = printed.written;
-    bank_answer(answer)
 }
 
 // ---- several controllers on one board
 
 // One call of the board whose records the stored bytes are, end to end.
+#[tactic(auto, using(crate::proofs::Boards::boarding))]
 #[unsafe(no_mangle)]
 pub extern "C" fn khuyapesh_board(
     kind: u8,
@@ -603,47 +550,47 @@ pub extern "C" fn khuyapesh_board(
 ) -> u32
     ensures { (result, (stored.new, reply.new)) ≡ board_bytes kind stored.old request.now reply.old }
 {
-    if LAST_KIND < kind {
+    let Ok(kind) = Kind::try_from(kind) else {
         return NO_SUCH;
-    }
-    board_answer(storedboard::call(kind_of(kind), stored, request, reply))
+    };
+    board_answer(storedboard::call(kind, stored, request, reply))
 }
 
 // ---- on Modbus
 
-// One call on the record that the stored bytes are.
+// One call on the record that the stored bytes are. Not one function with call_record: the call and the silence's answer are all that either has.
 fn modbus_record(before: Record, stored: &mut [u8], request: &[u8], reply: &mut [u8]) -> u32
     requires { open_of stored.old ≡ (0, before) }
     ensures { (result, (stored.new, reply.new)) ≡ modbus_left (modbus_of before request.now reply.old) stored.old reply.old }
 {
-    let called = modbus::call(before, request, reply);
-    let answer = called.answer;
-    let record = called.after;
+    let Called {
+        answer,
+        after: record,
+    } = modbus::call(before, request, reply);
     match answer {
-        modbus::Answer::Silent(why) => modbus_answer(why),
-        modbus::Answer::Reply(n) => {
-            stored::write(record, stored);
+        Err(why) => modbus_answer(why),
+        Ok(n) => {
+            stored::write(record, stored).unwrap();
             n as u32
         }
     }
 }
 
 // One call of the controller as a Modbus slave.
+#[tactic(auto, using(crate::proofs::Modbus::modbus_serving))]
 #[unsafe(no_mangle)]
 pub extern "C" fn khuyapesh_modbus(stored: &mut [u8], request: &[u8], reply: &mut [u8]) -> u32
     ensures { (result, (stored.new, reply.new)) ≡ modbus_bytes stored.old request.now reply.old }
 {
-    let reading = stored::read(stored);
-    let read = reading.answer;
-    let before = reading.record;
-    let answer = open_answer(read, stored.len());
-    if answer != 0 {
-        return ABOVE_LENGTHS + answer;
-    }
+    let before = match open_record(stored) {
+        Ok(before) => before,
+        Err(answer) => return ABOVE_LENGTHS + answer,
+    };
     modbus_record(before, stored, request, reply)
 }
 
 // The same with a bank. What was opened is valid, so that no more is asked of the bank.
+#[tactic(auto, using(crate::proofs::Modbus::banked_modbus_serving))]
 #[unsafe(no_mangle)]
 pub extern "C" fn khuyapesh_banked_modbus(
     stored: &mut [u8],
@@ -653,11 +600,10 @@ pub extern "C" fn khuyapesh_banked_modbus(
 ) -> u32
     ensures { (result, (stored.new, reply.new)) ≡ banked_modbus_bytes stored.old bank.now request.now reply.old }
 {
-    let opened = open_banked(stored, bank);
-    let held = opened.held;
-    if opened.answer != 0 {
-        return ABOVE_LENGTHS + opened.answer;
-    }
+    let held = match open_banked(stored, bank) {
+        Ok(held) => held,
+        Err(answer) => return ABOVE_LENGTHS + answer,
+    };
     modbus_record(held.state, stored, request, reply)
 }
 
@@ -668,17 +614,14 @@ pub extern "C" fn khuyapesh_banked_modbus(
 pub extern "C" fn khuyapesh_panel(event: u8, number: u16, stored: &mut [u8]) -> u32
     ensures { (result, stored.new) ≡ panel_bytes event number stored.old }
 {
-    if LAST_EVENT < event {
+    let Some(event) = event_of(event, number) else {
         return NO_SUCH;
-    }
-    let reading = stored::read(stored);
-    let read = reading.answer;
-    let before = reading.record;
-    let answer = open_answer(read, stored.len());
-    if answer != 0 {
-        return answer;
-    }
-    stored::write(kept::lend_to_event(before, event_of(event, number)), stored);
+    };
+    let before = match open_record(stored) {
+        Ok(before) => before,
+        Err(answer) => return answer,
+    };
+    stored::write(kept::lend_to_event(before, event), stored).unwrap();
     0
 }
 
@@ -692,11 +635,16 @@ pub extern "C" fn khuyapesh_stored(stored: &[u8], out: &mut [u8]) -> u32
     if out.len() < STORED_LENGTH {
         return NO_ROOM;
     }
-    let reading = stored::read(stored);
-    let answer = reading.answer;
-    let read = reading.record;
-    stored::write(read, out);
-    stored_answer(answer)
+    match stored::read(stored) {
+        Ok(record) => {
+            stored::write(record, out).unwrap();
+            0
+        }
+        Err(why) => {
+            stored::write(stored::low_record(), out).unwrap();
+            refusal_answer(why)
+        }
+    }
 }
 
 // ---- the host side
@@ -706,10 +654,10 @@ pub extern "C" fn khuyapesh_stored(stored: &[u8], out: &mut [u8]) -> u32
 pub extern "C" fn khuyapesh_build(kind: u8, text: &[u8], out: &mut [u8]) -> u32
     ensures { (result, out.new) ≡ build_bytes kind text.now out.old }
 {
-    if LAST_KIND < kind {
+    let Ok(kind) = Kind::try_from(kind) else {
         return NO_SUCH;
-    }
-    built_answer(frame::build(kind_of(kind), text, out))
+    };
+    built_answer(frame::build(kind, text, out))
 }
 
 // Copies a frame's text.
@@ -717,10 +665,10 @@ pub extern "C" fn khuyapesh_build(kind: u8, text: &[u8], out: &mut [u8]) -> u32
 pub extern "C" fn khuyapesh_read(kind: u8, frame: &[u8], out: &mut [u8]) -> u32
     ensures { (result, out.new) ≡ read_bytes kind frame.now out.old }
 {
-    if LAST_KIND < kind {
+    let Ok(kind) = Kind::try_from(kind) else {
         return NO_SUCH;
-    }
-    text_answer(frame::read(kind_of(kind), frame, out))
+    };
+    text_answer(frame::read(kind, frame, out))
 }
 
 // ---- the drum change
@@ -737,7 +685,11 @@ pub extern "C" fn khuyapesh_drum_begin(
 ) -> u32
     ensures { (result, (state.new, request.new)) ≡ drum_left (begin_of address recipe factor preset state.old request.old) }
 {
-    drum_answer(drumstate::begin(address, recipe, factor, preset, state, request))
+    drum_answer(drumstate::begin(
+        drum::picked(address, recipe, factor, preset),
+        state,
+        request,
+    ))
 }
 
 // Takes a reply.
@@ -751,37 +703,26 @@ pub extern "C" fn khuyapesh_drum_take(state: &mut [u8], reply: &[u8], request: &
 // ---- the judge
 
 // Judges a recording.
+#[tactic(auto, unfolding(crate::specs::Bytes::judge_numbers))]
 #[unsafe(no_mangle)]
 pub extern "C" fn khuyapesh_judge(recording: &[u8], place: &mut usize, count: &mut usize) -> u32
     ensures { (result, (place.new, count.new)) ≡ judge_numbers (judgement_of recording.now) }
 {
-    match judging::judge(recording) {
-        Judgement::Fits(n) => {
-            *place = 0;
-            *count = n;
-            0
-        }
-        Judgement::Refuted(i, n) => {
-            *place = i;
-            *count = n;
-            1
-        }
-        Judgement::NotJudged(i, n) => {
-            *place = i;
-            *count = n;
-            2
-        }
-        Judgement::Refused(refusal) => {
-            *place = 0;
-            *count = 0;
-            recording_answer(refusal)
-        }
-    }
+    let (answer, i, n) = match judging::judge(recording) {
+        Ok(Judgement::Fits(n)) => (0, 0, n),
+        Ok(Judgement::Refuted(i, n)) => (1, i, n),
+        Ok(Judgement::NotJudged(i, n)) => (2, i, n),
+        Err(refusal) => (recording_answer(refusal), 0, 0),
+    };
+    *place = i;
+    *count = n;
+    answer
 }
 
 // ---- what a recording tells
 
 // What is known of the record after the first exchanges.
+#[tactic(auto, unfolding(crate::specs::Bytes::known_numbers))]
 #[unsafe(no_mangle)]
 pub extern "C" fn khuyapesh_known(
     recording: &[u8],
@@ -795,23 +736,20 @@ pub extern "C" fn khuyapesh_known(
     if sets.len() < FIELDS {
         return SHORT_BUFFER;
     }
-    let known = judging::known(recording, exchanges);
-    let told = known.told;
-    let codes = known.codes;
-    match told {
-        Told::Refused(refusal) => recording_answer(refusal),
-        Told::Refuted(i) => {
-            *place = i;
-            1
-        }
-        Told::NotJudged(i) => {
-            *place = i;
-            2
-        }
-        Told::Sets => {
+    match judging::known(recording, exchanges) {
+        Ok(Told::Sets(codes)) => {
             knowledge::lay(codes, sets);
             0
         }
+        Ok(Told::Refuted(i)) => {
+            *place = i;
+            1
+        }
+        Ok(Told::NotJudged(i)) => {
+            *place = i;
+            2
+        }
+        Err(refusal) => recording_answer(refusal),
     }
 }
 
@@ -832,12 +770,13 @@ pub extern "C" fn khuyapesh_learn(
     if hearing::asks_batch(address, request) {
         return 2;
     }
-    let after = hearing::learn(knowledge::lent(sets), address, access, request, reply, true);
+    let link = Link { address, access };
+    let exchange = Exchange { request, reply };
+    let after = hearing::learn(knowledge::lent(sets), link, exchange, true);
     if !after.alive {
         return 1;
     }
-    let codes = after.codes;
-    knowledge::lay(codes, sets);
+    knowledge::lay(after.codes, sets);
     0
 }
 
@@ -846,13 +785,10 @@ pub extern "C" fn khuyapesh_learn(
 pub extern "C" fn khuyapesh_may_hold(field: usize, set: u32, number: u32) -> u32
     ensures { result ≡ may_hold_number field set number }
 {
-    if knowledge::may_hold(field, set, number) {
-        return 1;
-    }
-    0
+    u32::from(knowledge::may_hold(field, set, number))
 }
 
-// The answer, and what is told beside it.
+// The answer, and what is told beside it. No Result: the caller is given all five numbers beside every answer.
 #[derive(Clone, Copy)]
 struct WhyNumbers {
     pub answer: u32,
@@ -862,37 +798,60 @@ struct WhyNumbers {
     pub needed: u32,
 }
 
-fn why_numbers(answer: u32, place: usize, number: u32, held: u32, needed: u32) -> WhyNumbers
-    ensures { result ≡ record { answer = answer; place = place; number = number; held = held; needed = needed } }
-{
-    WhyNumbers {
-        answer: answer,
-        place: place,
-        number: number,
-        held: held,
-        needed: needed,
-    }
-}
+const NOTHING_TOLD: WhyNumbers = WhyNumbers {
+    answer: 0,
+    place: 0,
+    number: 0,
+    held: 0,
+    needed: 0,
+};
 
 fn reason_numbers(place: usize, why: Reason) -> WhyNumbers
     ensures { why_as result ≡ reason_numbers place why }
 {
     match why {
-        Reason::Answered(n) => why_numbers(1, place, base::wide(n), 0, 0),
-        Reason::Unanswered => why_numbers(2, place, 0, 0, 0),
-        Reason::Impossible => why_numbers(3, place, 0, 0, 0),
-        Reason::Field(field, held, needed) => why_numbers(4, place, field, held, needed),
+        Reason::Answered(n) => WhyNumbers {
+            answer: 1,
+            place,
+            number: u32::from(n),
+            ..NOTHING_TOLD
+        },
+        Reason::Unanswered => WhyNumbers {
+            answer: 2,
+            place,
+            ..NOTHING_TOLD
+        },
+        Reason::Impossible => WhyNumbers {
+            answer: 3,
+            place,
+            ..NOTHING_TOLD
+        },
+        Reason::Field(number, held, needed) => WhyNumbers {
+            answer: 4,
+            place,
+            number,
+            held,
+            needed,
+        },
     }
 }
 
-fn cause_numbers(cause: Cause) -> WhyNumbers
+#[tactic(auto, unfolding(crate::specs::Bytes::why_numbers))]
+fn cause_numbers(cause: Result<Cause, recording::Refusal>) -> WhyNumbers
     ensures { why_as result ≡ why_numbers (caused_as cause) }
 {
     match cause {
-        Cause::Refused(refusal) => why_numbers(recording_answer(refusal), 0, 0, 0, 0),
-        Cause::Fits(_) => why_numbers(0, 0, 0, 0, 0),
-        Cause::NotJudged(place, _) => why_numbers(5, place, 0, 0, 0),
-        Cause::Refuted(place, _, why) => reason_numbers(place, why),
+        Ok(Cause::Fits(_)) => NOTHING_TOLD,
+        Ok(Cause::NotJudged(place, _)) => WhyNumbers {
+            answer: 5,
+            place,
+            ..NOTHING_TOLD
+        },
+        Ok(Cause::Refuted(place, _, why)) => reason_numbers(place, why),
+        Err(refusal) => WhyNumbers {
+            answer: recording_answer(refusal),
+            ..NOTHING_TOLD
+        },
     }
 }
 
@@ -915,39 +874,8 @@ pub extern "C" fn khuyapesh_why(
     why.answer
 }
 
-// The answer, and where the exchange has its request and its reply.
-#[derive(Clone, Copy)]
-struct Found {
-    pub answer: u32,
-    pub spans: Spans,
-}
-
-fn exchange_found(next: Next) -> Found
-    ensures { found_as result ≡ exchange_numbers next }
-{
-    let nowhere = Spans {
-        request: 0,
-        stop: 0,
-        reply: 0,
-        end: 0,
-    };
-    match next {
-        Next::End => Found {
-            answer: 1,
-            spans: nowhere,
-        },
-        Next::Cut => Found {
-            answer: CUT,
-            spans: nowhere,
-        },
-        Next::Exchange(spans) => Found {
-            answer: 0,
-            spans: spans,
-        },
-    }
-}
-
 // The exchange that starts at a place.
+#[tactic(auto, unfolding(crate::specs::Bytes::exchange_numbers))]
 #[unsafe(no_mangle)]
 pub extern "C" fn khuyapesh_exchange(
     recording: &[u8],
@@ -959,11 +887,14 @@ pub extern "C" fn khuyapesh_exchange(
 ) -> u32
     ensures { (result, (request.new, (stop.new, (reply.new, end.new)))) ≡ exchange_numbers (exchange_at recording.now at) }
 {
-    let found = exchange_found(recording::exchange_at(recording, at));
-    let spans = found.spans;
+    let (answer, spans) = match recording::exchange_at(recording, at) {
+        Ok(Some(spans)) => (0, spans),
+        Ok(None) => (1, NOWHERE),
+        Err(refusal) => (recording_answer(refusal), NOWHERE),
+    };
     *request = spans.request;
     *stop = spans.stop;
     *reply = spans.reply;
     *end = spans.end;
-    found.answer
+    answer
 }

@@ -4,25 +4,22 @@ use mathlib.Core.List.{List, [], ◌∷◌, ◌++◌, append-nil}
 use mathlib.Core.Bool.{Bool, true, false, ◌&&◌}
 use Prim.Native.Nat.{ℕ, suc, ◌+◌, ◌-◌, ◌≤◌, ◌<◌}
 use native.Mathlib.Nat.{not-suc-le-zero}
+use native.Mathlib.Numerals.{add-one}
 use native.Mathlib.Omega.{arith}
 use lib.Dec.{leb, eqb}
 use lib.ListN.{length, take, drop, get_or, length-append, length-drop, length-take}
-use lib.Seq.{drop-length, get_or-drop, get_or-take, length-take-le, take_at, take-length}
-use borrow.Rule.Slice.PartMut.{put_mid}
+use lib.Seq.{length-take-le, take_at, drop-length, take-length}
+use borrow.Rule.Slice.PartMut.{put_mid, Post-is}
 use borrow.Author.Tests.{le-leb, leb-true, eqb-true}
 use Rattle.frame.specs.declared.Kind.{Kind}
 use Rattle.frame.specs.declared.Kind.TheVariants.{Minicomputer, Terminal}
 use Rattle.frame.specs.declared.Silence.{Silence}
 use Rattle.frame.specs.declared.Silence.TheVariants as silence
-use Rattle.frame.specs.declared.Built.{Built}
-use Rattle.frame.specs.declared.Built.TheVariants as built
-use Rattle.frame.specs.declared.Located.{Located}
-use Rattle.frame.specs.declared.Located.TheVariants as located
-use Rattle.frame.specs.declared.Addressed.{Addressed}
-use Rattle.frame.specs.declared.Addressed.TheVariants as addressee
+use Rattle.std.specs.Prelude.{Result, Ok}
+use Rattle.frame.specs.declared.BuildRefusal.{BuildRefusal}
 use Rattle.frame.specs.Frame.{stx, etx, pad, star, cr, lf, is_digit, is_capital, all_text, names_unit, address_in, frame_of, tail_of, text_in, within_limits, from_end, marks_right, check_right}
 use Rattle.base.specs.Test.{between, unless}
-use Rattle.frame.specs.Numbers.{Answer, H, S, accepted, unit, silence_number, built_as, located_as, addressed_as}
+use Rattle.frame.specs.Numbers.{Answer, H, S, accepted, unit, silence_number, built_as, located_as}
 use Rattle.frame.specs.Answer.{copied, addressed, build_of, locate_of, read_of, address_of}
 use Rattle.base.specs.Lists.{over}
 use Rattle.base.proofs.Tests.{never}
@@ -42,14 +39,16 @@ silence_low silence.OtherAddress = omega arith
 pub held-length : (n : ℕ) (o : List ℕ) → n < length o → length (take n (drop 1 o)) ≡ n
 held-length n o h = length-take-le n (drop 1 o) (simp length-drop (omega arith))
 
--- a byte of the text that is held
-pub held_byte : (n i : ℕ) (o : List ℕ) → i < n → get_or (take n (drop 1 o)) i 0 ≡ get_or o (1 + i) 0
-held_byte n i o h = get_or-take n (drop 1 o) i 0 h ∙ get_or-drop 1 o i 0
-
 -- what was laid after the first byte is held there
 pub over-held : (t o : List ℕ) (n m : ℕ) → length t ≡ n → take n (drop 1 (over (m ∷ t) o)) ≡ t
 unfolding over
 over-held t o n m e = take_at t _ n e
+
+-- the part behind the first byte comes back with t in it
+pub text_back : (t o : List ℕ) → 0 < length o → put_mid 1 (length t + 1 - 1) o t ≡ over (get_or o 0 0 ∷ t) o
+unfolding over
+text_back t [] h = absurd (not-suc-le-zero h)
+text_back t (x ∷ o) h = rw (Post-is 1 (length t + 1) (x ∷ o) (omega arith), add-one) refl
 
 less_one : (n : ℕ) → suc n - 1 ≡ n
 less_one n = omega arith
@@ -225,7 +224,7 @@ pub found_text : (k : Kind) (f : List ℕ) (n : ℕ) → Found k f n → take n 
 unfolding text_in
 found_text k f n a = let e : n ≡ length f - tail_of k - 1 = omega (arith, a.size, text-length k f a.limits) in ap (λ (i : ℕ). take i (drop 1 f)) e
 
-pub located_found : (k : Kind) (f : List ℕ) (r : Located) (n : ℕ) → located_as r ≡ locate_of k f → r ≡ located.Text n → Found k f n
+pub located_found : (k : Kind) (f : List ℕ) (r : Result ℕ Silence) (n : ℕ) → located_as r ≡ locate_of k f → r ≡ Ok n → Found k f n
 located_found k f r n e z = found k f n (sym e ∙ ap located_as z)
 
 -- ---- `build` or `enclose` made a frame of n bytes, and the buffer then holds b
@@ -260,8 +259,8 @@ pub framed_built : (k : Kind) (t o b : List ℕ) (n : ℕ) → Framed k t o b n 
 unfolding build_of
 framed_built k t o b n a = simp (le-leb _ _ a.room, le-leb _ _ a.low, le-leb _ _ a.high, a.text, a.size, a.left)
 
-pub built_framed : (k : Kind) (t o b : List ℕ) (r : Built) (n : ℕ) → (built_as r, b) ≡ build_of k t o → r ≡ built.Frame n → Framed k t o b n
-built_framed k t o b r n e z = framed k t o b n (sym e ∙ ap (λ (y : Built). (built_as y, b)) z)
+pub built_framed : (k : Kind) (t o b : List ℕ) (r : Result ℕ BuildRefusal) (n : ℕ) → (built_as r, b) ≡ build_of k t o → r ≡ Ok n → Framed k t o b n
+built_framed k t o b r n e z = framed k t o b n (sym e ∙ ap (λ (y : Result ℕ BuildRefusal). (built_as y, b)) z)
 
 -- ---- `read` found a text of n bytes, and the buffer then holds b
 pub record Taken (k : Kind) (f o b : List ℕ) (n : ℕ) : Type 0 where
@@ -328,6 +327,3 @@ address_cases P k f silent unit_so = go (within_limits k (length f)) (marks_righ
     go true true false b₆ = silent 5 (omega arith) (omega arith)
     go true true true false = silent 6 (omega arith) (omega arith)
     go true true true true = last (names_unit (text_in k f))
-
-pub addressed_named : (k : Kind) (f : List ℕ) (r : Addressed) (a n : ℕ) → addressed_as r ≡ address_of k f → r ≡ addressee.Unit a n → Named k f a n
-addressed_named k f r a n e z = named k f a n (sym e ∙ ap addressed_as z)

@@ -1,6 +1,6 @@
 -- Document 01, "Frames": the form of a frame, for either kind of link.
-use Rattle.std.specs.Prelude.{ℕ, ◌+◌, ◌-◌, ◌*◌, List, [], ◌∷◌, ◌++◌, Bool, true, ◌&&◌, eqb, length, drop, take, get_or}
-use Rattle.base.specs.Test.{between, all_between}
+use Rattle.std.specs.Prelude.{ℕ, ◌+◌, ◌-◌, ◌*◌, List, [], ◌∷◌, ◌++◌, Bool, true, ◌&&◌, Option, Some, None, eqb, length, drop, take, get_or}
+use Rattle.base.specs.Test.{pick, between, all_between}
 use Rattle.std.specs.Int.Bits.{bit_xor}
 use Rattle.frame.specs.declared.Kind.{Kind}
 use Rattle.frame.specs.declared.Kind.TheVariants.{Minicomputer, Terminal}
@@ -44,6 +44,10 @@ names_unit t = is_digit (get_or t 0 0) && (is_digit (get_or t 1 0) && (is_capita
 -- the number that the two address digits are
 unfoldable pub address_in : List ℕ → ℕ
 address_in t = (get_or t 0 0 - 0x30) * 10 + (get_or t 1 0 - 0x30)
+
+-- that number, if the text names a unit
+unfoldable pub unit_in : List ℕ → Option ℕ
+unit_in t = pick (names_unit t) (Some (address_in t)) None
 
 -- ---- the frame
 

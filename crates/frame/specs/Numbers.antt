@@ -1,15 +1,20 @@
 -- Each answer of the code as document 01 numbers it, with the values that go with it.
-use Rattle.std.specs.Prelude.{ℕ}
+use Rattle.std.specs.Prelude.{ℕ, Result, Ok, Err, eqb}
+use Rattle.base.specs.Test.{pick}
+use Rattle.frame.specs.declared.Kind.{Kind}
+use Rattle.frame.specs.declared.Kind.TheVariants.{Minicomputer, Terminal}
+use Rattle.frame.specs.declared.UnknownKind.{UnknownKind}
 use Rattle.frame.specs.declared.Silence.{Silence}
 use Rattle.frame.specs.declared.Silence.TheVariants as silence
-use Rattle.frame.specs.declared.Built.{Built}
-use Rattle.frame.specs.declared.Built.TheVariants as built
-use Rattle.frame.specs.declared.Located.{Located}
-use Rattle.frame.specs.declared.Located.TheVariants as located
-use Rattle.frame.specs.declared.TextRead.{TextRead}
-use Rattle.frame.specs.declared.TextRead.TheVariants as text_read
+use Rattle.frame.specs.declared.BuildRefusal.{BuildRefusal}
+use Rattle.frame.specs.declared.BuildRefusal.TheVariants as build
+use Rattle.frame.specs.declared.ReadRefusal.{ReadRefusal}
+use Rattle.frame.specs.declared.ReadRefusal.TheVariants as read
 use Rattle.frame.specs.declared.Addressed.{Addressed}
-use Rattle.frame.specs.declared.Addressed.TheVariants as addressed
+
+-- the kind of link that a number stands for: 0 a minicomputer, 1 a terminal
+abbrev pub kind_numbered : ℕ → Result Kind UnknownKind
+kind_numbered n = pick (eqb n 0) (Ok Minicomputer) (pick (eqb n 1) (Ok Terminal) (Err record { 0 = n }))
 
 -- H1 to H3; S1 to S8; the length of the frame that was built or of the text that was found; the address of a
 -- request and its text's length
@@ -43,21 +48,21 @@ silence_number silence.TextByte = 6
 silence_number silence.AddressOrCode = 7
 silence_number silence.OtherAddress = 8
 
-abbrev pub built_as : Built → Answer
-built_as built.ShortBuffer = H 1
-built_as built.TextLength = H 2
-built_as built.TextByte = H 3
-built_as (built.Frame n) = accepted n
+abbrev pub built_as : Result ℕ BuildRefusal → Answer
+built_as (Err build.ShortBuffer) = H 1
+built_as (Err build.TextLength) = H 2
+built_as (Err build.TextByte) = H 3
+built_as (Ok n) = accepted n
 
-abbrev pub located_as : Located → Answer
-located_as (located.Silent s) = S (silence_number s)
-located_as (located.Text n) = accepted n
+abbrev pub located_as : Result ℕ Silence → Answer
+located_as (Err s) = S (silence_number s)
+located_as (Ok n) = accepted n
 
-abbrev pub read_as : TextRead → Answer
-read_as text_read.ShortBuffer = H 1
-read_as (text_read.Silent s) = S (silence_number s)
-read_as (text_read.Text n) = accepted n
+abbrev pub read_as : Result ℕ ReadRefusal → Answer
+read_as (Err read.ShortBuffer) = H 1
+read_as (Err (read.Silent s)) = S (silence_number s)
+read_as (Ok n) = accepted n
 
-abbrev pub addressed_as : Addressed → Answer
-addressed_as (addressed.Silent s) = S (silence_number s)
-addressed_as (addressed.Unit a n) = unit a n
+abbrev pub addressed_as : Result Addressed Silence → Answer
+addressed_as (Err s) = S (silence_number s)
+addressed_as (Ok a) = unit a.unit a.length

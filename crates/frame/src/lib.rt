@@ -2,21 +2,40 @@
 #![tactic(auto)]
 
 ghost use Rattle.std.specs.Prelude.{◌≡◌, ◌+◌, ◌≤◌, length, take, drop};
-ghost use Rattle.frame.specs.Frame.{xor_from, is_text, all_text, frame_of, tail_of, within_limits, marks_right, check_right, names_unit};
+ghost use Rattle.frame.specs.Frame.{xor_from, is_text, all_text, frame_of, tail_of, within_limits, marks_right, check_right, unit_in};
 ghost use Rattle.base.specs.Test.{between};
 ghost use Rattle.frame.specs.Answer.{build_of, locate_of, read_of, address_of};
 ghost use Rattle.base.specs.Lists.{over};
-ghost use Rattle.frame.specs.Numbers.{silence_number, length_in, built_as, located_as, read_as, addressed_as};
+ghost use Rattle.frame.specs.Numbers.{kind_numbered, silence_number, built_as, located_as, read_as, addressed_as};
+ghost use Rattle.frame.specs.declared.ReadRefusal.TheVariants.{Silent};
 
 // The two kinds of link.
-#[derive(Clone, Copy)]
+#[derive(Clone, Copy, PartialEq, Eq)]
 pub enum Kind {
     Minicomputer,
     Terminal,
 }
 
+// A number that stands for no kind of link.
+#[derive(Clone, Copy, PartialEq, Eq)]
+pub struct UnknownKind(pub u8);
+
+impl TryFrom<u8> for Kind {
+    type Error = UnknownKind;
+
+    ghost try_from_gives = { λ number r. r ≡ kind_numbered number };
+
+    fn try_from(number: u8) -> Result<Kind, UnknownKind> {
+        match number {
+            0 => Ok(Kind::Minicomputer),
+            1 => Ok(Kind::Terminal),
+            _ => Err(UnknownKind(number)),
+        }
+    }
+}
+
 // Why a request gets no reply, in the order of the tests.
-#[derive(Clone, Copy)]
+#[derive(Clone, Copy, PartialEq, Eq)]
 pub enum Silence {
     // S1
     InvalidRecord,
@@ -37,78 +56,63 @@ pub enum Silence {
 }
 
 // The n of Sn.
-pub fn number_of(silence: Silence) -> u8
-    ensures { result ≡ silence_number silence }
-{
-    match silence {
-        Silence::InvalidRecord => 1,
-        Silence::ShortReplyBuffer => 2,
-        Silence::FrameLength => 3,
-        Silence::Mark => 4,
-        Silence::Check => 5,
-        Silence::TextByte => 6,
-        Silence::AddressOrCode => 7,
-        Silence::OtherAddress => 8,
+impl From<Silence> for u8 {
+    ghost from_gives = { λ silence n. n ≡ silence_number silence };
+
+    fn from(silence: Silence) -> u8 {
+        match silence {
+            Silence::InvalidRecord => 1,
+            Silence::ShortReplyBuffer => 2,
+            Silence::FrameLength => 3,
+            Silence::Mark => 4,
+            Silence::Check => 5,
+            Silence::TextByte => 6,
+            Silence::AddressOrCode => 7,
+            Silence::OtherAddress => 8,
+        }
     }
 }
 
-// What building a frame answers.
-#[derive(Clone, Copy)]
-pub enum Built {
+// Why no frame is built, in the order of the tests.
+#[derive(Clone, Copy, PartialEq, Eq)]
+pub enum BuildRefusal {
     // H1
     ShortBuffer,
     // H2
     TextLength,
     // H3
     TextByte,
-    // The frame's length.
-    Frame(usize),
 }
 
-// Where a frame's text lies.
-#[derive(Clone, Copy)]
-pub enum Located {
-    // S3 to S6
-    Silent(Silence),
-    // The text's length; it starts at the second byte.
-    Text(usize),
-}
-
-// What reading a frame's text answers.
-#[derive(Clone, Copy)]
-pub enum TextRead {
+// Why no text is read.
+#[derive(Clone, Copy, PartialEq, Eq)]
+pub enum ReadRefusal {
     // H1
     ShortBuffer,
     // S3 to S6
     Silent(Silence),
-    // The text's length.
-    Text(usize),
 }
 
-// Whom a frame is for.
-#[derive(Clone, Copy)]
-pub enum Addressed {
-    // S3 to S7
-    Silent(Silence),
-    // The unit's address, and the text's length; the text starts at the second byte.
-    Unit(u8, usize),
-}
+impl From<Silence> for ReadRefusal {
+    ghost from_gives = { λ silence refusal. refusal ≡ Silent silence };
 
-impl Built {
-    // The frame's length; 0 for a refusal.
-    pub fn length(self) -> usize
-        ensures { result ≡ length_in (built_as self) }
-    {
-        match self {
-            Built::ShortBuffer => 0,
-            Built::TextLength => 0,
-            Built::TextByte => 0,
-            Built::Frame(n) => n,
-        }
+    fn from(silence: Silence) -> ReadRefusal {
+        ReadRefusal::Silent(silence)
     }
 }
 
-// The most bytes that a text has.
+// Whom a frame is for.
+#[derive(Clone, Copy, PartialEq, Eq)]
+pub struct Addressed {
+    // The unit's address.
+    pub unit: u8,
+    // The text's length; the text starts at the second byte.
+    pub length: usize,
+}
+
+// The least and the most bytes that a text has.
+const SHORTEST_TEXT: usize = 4;
+
 pub const LONGEST_TEXT: usize = 60;
 
 // The least room for a reply, a frame that is built or a text that is read.
@@ -130,20 +134,14 @@ const LF: u8 = 0x0a;
 pub fn check(s: &[u8]) -> u8
     ensures { result ≡ xor_from 0 s.now }
 {
-    let mut c: u8 = 0;
-    let mut i = 0;
-    while i < s.len() {
-        c = c ^ s[i];
-        i += 1;
-    }
-    c
+    s.iter().fold(0, |sum, x| sum ^ x)
 }
 
 // The byte may stand in a text.
 pub fn text_byte(x: u8) -> bool
     ensures { result ≡ is_text x }
 {
-    inside(0x20, 0x7e, x)
+    (0x20..=0x7e).contains(&x)
 }
 
 // Every byte may stand in a text.
@@ -153,28 +151,15 @@ pub fn printable(s: &[u8]) -> bool
     base::all_between(0x20, 0x7e, s)
 }
 
-// Copies all of src to the start of dst.
-fn lay(src: &[u8], dst: &mut [u8])
-    requires { length src.now ≤ length dst.old }
-    ensures { dst.new ≡ over src.now dst.old }
-{
-    let mut i = 0;
-    while i < src.len() {
-        dst[i] = src[i];
-        i += 1;
-    }
-}
-
-// Puts the marks and the check around the text that stands from the second byte on.
+// Puts the marks and the check around the text that stands from the second byte on. The room is asked for here and in the next two alone,
+// which one call below the test of it reaches.
 fn close_minicomputer(n: usize, out: &mut [u8])
     requires { n + 4 ≤ length out.old }
     ensures { out.new ≡ over (frame_of Kind.Minicomputer (take n (drop 1 out.old))) out.old }
 {
     out[0] = STX;
     out[n + 1] = ETX;
-    let end = n + 2;
-    let sum = check(&out[1..end]);
-    out[n + 2] = sum;
+    out[n + 2] = check(&out[1..n + 2]);
     out[n + 3] = PAD;
 }
 
@@ -206,44 +191,40 @@ fn close(kind: Kind, n: usize, out: &mut [u8]) -> usize
 }
 
 // Builds the frame of a text at the start of out. A refusal leaves out as it was.
-pub fn build(kind: Kind, text: &[u8], out: &mut [u8]) -> Built
+#[tactic(auto, unfolding(crate::specs::Answer::build_of))]
+pub fn build(kind: Kind, text: &[u8], out: &mut [u8]) -> Result<usize, BuildRefusal>
     ensures { (built_as result, out.new) ≡ build_of kind text.now out.old }
 {
     if out.len() < ROOM {
-        return Built::ShortBuffer;
+        return Err(BuildRefusal::ShortBuffer);
     }
     let n = text.len();
-    if n < 4 {
-        return Built::TextLength;
-    }
-    if LONGEST_TEXT < n {
-        return Built::TextLength;
+    if !(SHORTEST_TEXT..=LONGEST_TEXT).contains(&n) {
+        return Err(BuildRefusal::TextLength);
     }
     if !printable(text) {
-        return Built::TextByte;
+        return Err(BuildRefusal::TextByte);
     }
-    lay(text, &mut out[1..]);
-    Built::Frame(close(kind, n, out))
+    out[1..n + 1].copy_from_slice(text);
+    Ok(close(kind, n, out))
 }
 
-// Builds the frame of the n bytes of text that out itself holds from its second byte on. A refusal leaves out as it was.
-pub fn enclose(kind: Kind, n: usize, out: &mut [u8]) -> Built
+// Builds the frame of the n bytes of text that out itself holds from its second byte on. A refusal leaves out as it was. Apart from
+// build, which copies a text into out only once it is not refused.
+#[tactic(auto, unfolding(crate::specs::Answer::build_of))]
+pub fn enclose(kind: Kind, n: usize, out: &mut [u8]) -> Result<usize, BuildRefusal>
     ensures { (built_as result, out.new) ≡ build_of kind (take n (drop 1 out.old)) out.old }
 {
     if out.len() < ROOM {
-        return Built::ShortBuffer;
+        return Err(BuildRefusal::ShortBuffer);
     }
-    if n < 4 {
-        return Built::TextLength;
+    if !(SHORTEST_TEXT..=LONGEST_TEXT).contains(&n) {
+        return Err(BuildRefusal::TextLength);
     }
-    if LONGEST_TEXT < n {
-        return Built::TextLength;
+    if !printable(&out[1..n + 1]) {
+        return Err(BuildRefusal::TextByte);
     }
-    let end = n + 1;
-    if !printable(&out[1..end]) {
-        return Built::TextByte;
-    }
-    Built::Frame(close(kind, n, out))
+    Ok(close(kind, n, out))
 }
 
 // How many bytes follow the text.
@@ -257,131 +238,100 @@ fn tail(kind: Kind) -> usize
 }
 
 // A frame's length is within the kind's limits.
+#[tactic(auto, unfolding(crate::specs::Frame::within_limits))]
 fn limits(kind: Kind, n: usize) -> bool
     ensures { result ≡ within_limits kind n }
 {
     match kind {
-        Kind::Minicomputer => 8 <= n && n <= 64,
-        Kind::Terminal => 7 <= n && n <= 63,
+        Kind::Minicomputer => (8..=64).contains(&n),
+        Kind::Terminal => (7..=63).contains(&n),
     }
 }
 
 // The fixed marks stand in their places.
+#[tactic(auto, unfolding(crate::specs::Frame::marks_right))]
 fn marks(kind: Kind, frame: &[u8]) -> bool
     requires { 7 ≤ length frame.now }
     ensures { result ≡ marks_right kind frame.now }
 {
-    let n = frame.len();
     match kind {
-        Kind::Minicomputer => {
-            if frame[0] != STX {
-                return false;
-            }
-            if frame[n - 3] != ETX {
-                return false;
-            }
-            frame[n - 1] == PAD
-        }
-        Kind::Terminal => {
-            if frame[0] != STAR {
-                return false;
-            }
-            if frame[n - 2] != CR {
-                return false;
-            }
-            frame[n - 1] == LF
-        }
+        Kind::Minicomputer => matches!(frame, [STX, .., ETX, _, PAD]),
+        Kind::Terminal => matches!(frame, [STAR, .., CR, LF]),
     }
 }
 
 // The check is right; a terminal frame has none.
+#[tactic(auto, unfolding(crate::specs::Frame::check_right))]
 fn check_right(kind: Kind, frame: &[u8]) -> bool
     requires { 7 ≤ length frame.now }
     ensures { result ≡ check_right kind frame.now }
 {
     match kind {
-        Kind::Minicomputer => {
-            let at = frame.len() - 2;
-            check(&frame[1..at]) == frame[at]
-        }
+        Kind::Minicomputer => matches!(frame, [_, summed @ .., sum, _] if check(summed) == *sum),
         Kind::Terminal => true,
     }
 }
 
-// Says where a frame's text lies, without copying it.
-pub fn locate(kind: Kind, frame: &[u8]) -> Located
+// The length of a frame's text, which starts at the second byte.
+#[tactic(auto, using(crate::proofs::Steps::lengths), unfolding(crate::specs::Answer::locate_of, crate::specs::Frame::text_in))]
+pub fn locate(kind: Kind, frame: &[u8]) -> Result<usize, Silence>
     ensures { located_as result ≡ locate_of kind frame.now }
 {
     let n = frame.len();
     if !limits(kind, n) {
-        return Located::Silent(Silence::FrameLength);
+        return Err(Silence::FrameLength);
     }
     if !marks(kind, frame) {
-        return Located::Silent(Silence::Mark);
+        return Err(Silence::Mark);
     }
     if !check_right(kind, frame) {
-        return Located::Silent(Silence::Check);
+        return Err(Silence::Check);
     }
     let end = n - tail(kind);
     if !printable(&frame[1..end]) {
-        return Located::Silent(Silence::TextByte);
+        return Err(Silence::TextByte);
     }
-    Located::Text(end - 1)
+    Ok(end - 1)
 }
 
-// Copies the text of a frame to the start of out. A refusal leaves out as it was.
-pub fn read(kind: Kind, frame: &[u8], out: &mut [u8]) -> TextRead
+// Copies the text of a frame to the start of out, and gives the text's length. A refusal leaves out as it was.
+#[tactic(auto, using(crate::proofs::Steps::located_sizes), unfolding(crate::specs::Answer::read_of))]
+pub fn read(kind: Kind, frame: &[u8], out: &mut [u8]) -> Result<usize, ReadRefusal>
     ensures { (read_as result, out.new) ≡ read_of kind frame.now out.old }
 {
     if out.len() < ROOM {
-        return TextRead::ShortBuffer;
+        return Err(ReadRefusal::ShortBuffer);
     }
-    match locate(kind, frame) {
-        Located::Silent(silence) => TextRead::Silent(silence),
-        Located::Text(n) => {
-            let end = n + 1;
-            lay(&frame[1..end], out);
-            TextRead::Text(n)
-        }
-    }
+    let n = locate(kind, frame)?;
+    let text = &frame[1..n + 1];
+    out[..n].copy_from_slice(text);
+    Ok(n)
 }
 
-// x is one of lo to hi.
-fn inside(lo: u8, hi: u8, x: u8) -> bool
-    ensures { result ≡ between lo hi x }
+// The unit that a text names: its address is two digits, with two capitals behind them.
+#[tactic(auto, unfolding(crate::specs::Frame::unit_in, crate::specs::Frame::names_unit, crate::specs::Frame::address_in))]
+fn unit_in(text: &[u8]) -> Option<u8>
+    ensures { result ≡ unit_in text.now }
 {
-    lo <= x && x <= hi
-}
-
-// The text starts with two digits and two capitals.
-fn named(text: &[u8]) -> bool
-    requires { 4 ≤ length text.now }
-    ensures { result ≡ names_unit text.now }
-{
-    if !inside(b'0', b'9', text[0]) {
-        return false;
+    let &[tens, units, first, second, ..] = text else {
+        return None;
+    };
+    if !(tens.is_ascii_digit()
+        && units.is_ascii_digit()
+        && first.is_ascii_uppercase()
+        && second.is_ascii_uppercase())
+    {
+        return None;
     }
-    if !inside(b'0', b'9', text[1]) {
-        return false;
-    }
-    if !inside(b'A', b'Z', text[2]) {
-        return false;
-    }
-    inside(b'A', b'Z', text[3])
+    Some((tens - b'0') * 10 + (units - b'0'))
 }
 
 // Says whom a frame is for. No reply buffer and no record is looked at.
-pub fn address(kind: Kind, frame: &[u8]) -> Addressed
+#[tactic(auto, using(crate::proofs::Steps::located_sizes, crate::proofs::Steps::located_text), unfolding(crate::specs::Answer::address_of, crate::specs::Frame::unit_in))]
+pub fn address(kind: Kind, frame: &[u8]) -> Result<Addressed, Silence>
     ensures { addressed_as result ≡ address_of kind frame.now }
 {
-    match locate(kind, frame) {
-        Located::Silent(silence) => Addressed::Silent(silence),
-        Located::Text(n) => {
-            let end = n + 1;
-            if !named(&frame[1..end]) {
-                return Addressed::Silent(Silence::AddressOrCode);
-            }
-            Addressed::Unit((frame[1] - b'0') * 10 + (frame[2] - b'0'), n)
-        }
-    }
+    let length = locate(kind, frame)?;
+    let unit = unit_in(&frame[1..length + 1]).ok_or(Silence::AddressOrCode)?;
+    Ok(Addressed { unit, length })
 }

@@ -1,24 +1,28 @@
 -- Whether a request asks for a kept batch: one law for each return of `asks_batch`. A frame of another length has another text, or none.
 -- Assumes nothing.
 use Prim.Native.Nat.{ℕ, ◌-◌}
-use mathlib.Core.Bool.{Bool, true, false}
+use mathlib.Core.Bool.{Bool, true, false, not, false≢true}
 use mathlib.Core.Path.{◌≡◌, refl, sym, ap, ◌∙◌}
 use mathlib.Core.List.{List}
 use native.Mathlib.Omega.{arith}
 use lib.ListN.{length, take, drop}
+use borrow.Author.Tests.{ne_eqb}
+use Rattle.std.specs.Prelude.{Option, Some, None, Result, Ok, Err, is_some, is_ok}
 use Rattle.frame.specs.declared.Kind.TheVariants.{Minicomputer}
 use Rattle.frame.specs.declared.Silence.{Silence}
 use Rattle.frame.specs.Frame.{text_in}
 use Rattle.frame.proofs.Laws.{text-length}
-use Rattle.command.specs.declared.BatchAsked.{BatchAsked}
-use Rattle.command.specs.declared.BatchAsked.TheVariants as asks_for
 use Rattle.command.specs.Request.{batch_in}
-use Rattle.command.proofs.Beside.{other_length, batch_told, none_told}
-use Rattle.controller.specs.declared.Heard.{Heard}
-use Rattle.controller.specs.declared.Heard.TheVariants as heard
+use Rattle.command.proofs.Beside.{batch_form, batch_told, none_told}
 use Rattle.controller.specs.Call.{Hearing, S, text, hearing_of, heard_as}
 use Rattle.controller.proofs.Hearing.{heard_by, by_hearing, told_of}
 use Rattle.banked.specs.Banked.{asks_batch, asks_heard}
+
+never-true : true ≡ false → ⊥
+never-true e = false≢true (sym e)
+
+other_length : (t : List ℕ) → (length t ≡ 10 → ⊥) → batch_in t ≡ None
+other_length t h = batch_form t ∙ simp (ne_eqb (length t) 10 h)
 
 module _ (a : ℕ) (q : List ℕ) where
   abbrev asks_by : Hearing → Bool
@@ -41,22 +45,30 @@ module _ (a : ℕ) (q : List ℕ) where
       none-asked (λ n e.
       let size : length (text_in Minicomputer q) ≡ length q - 3 - 1 = text-length Minicomputer q (told_of Minicomputer true a q 64 n e).for_unit.text.limits in
       let low = (told_of Minicomputer true a q 64 n e).for_unit.text.size in
-      none_told (text_in Minicomputer q) (sym (other_length (text_in Minicomputer q) (λ z. h (omega arith)))))
+      none_told (text_in Minicomputer q) (other_length (text_in Minicomputer q) (λ z. h (omega arith))))
 
-  module _ (l : length q ≡ 14) (x : BatchAsked) (e : x ≡ batch_in (take (11 - 1) (drop 1 q))) where
+  module _ (l : length q ≡ 14) (x : Option ℕ) (e : x ≡ batch_in (take (11 - 1) (drop 1 q))) (b : Bool) (z : is_some x ≡ not b) where
     text_is : take (11 - 1) (drop 1 q) ≡ text_in Minicomputer q
     unfolding text_in
     text_is = let i : 11 - 1 ≡ length q - 3 - 1 = omega arith in ap (λ (n : ℕ). take n (drop 1 q)) i
 
-    pub other_text : x ≡ asks_for.Nothing → false ≡ asks_heard Minicomputer a q
-    other_text z = none-asked (λ n w. none_told (text_in Minicomputer q) (ap batch_in (sym text_is) ∙ (sym e ∙ z)))
+    batch_is : x ≡ batch_in (text_in Minicomputer q)
+    batch_is = e ∙ ap batch_in text_is
 
-    module _ (m : ℕ) (z : x ≡ asks_for.Number m) (h : Heard) (w : heard_as h ≡ hearing_of Minicomputer true a q 64) where
-      pub unheard : (s : Silence) → h ≡ heard.Silent s → false ≡ asks_heard Minicomputer a q
-      unheard s i = sym (by_heard ∙ ap asks_by (sym w ∙ ap heard_as i))
+    pub other_text : b ≡ true → false ≡ asks_heard Minicomputer a q
+    other_text t = go x batch_is (z ∙ ap not t)
+      where
+        go : (y : Option ℕ) → y ≡ batch_in (text_in Minicomputer q) → is_some y ≡ false → false ≡ asks_heard Minicomputer a q
+        go None f g = none-asked (λ n w. none_told (text_in Minicomputer q) (sym f))
+        go (Some m) f g = absurd (never-true g)
 
-      pub asked-heard : (n : ℕ) → h ≡ heard.Text n → true ≡ asks_heard Minicomputer a q
-      asked-heard n i =
-          sym (by_heard ∙ (ap asks_by (sym w ∙ ap heard_as i) ∙ (batch_told (text_in Minicomputer q) m (ap batch_in (sym text_is) ∙ (sym e ∙ z))).0))
+    pub asked_heard : b ≡ false → (h : Result ℕ Silence) → heard_as h ≡ hearing_of Minicomputer true a q 64 → (r : Bool) → r ≡ is_ok h → r ≡ asks_heard Minicomputer a q
+    asked_heard t h w r i = i ∙ go x batch_is (z ∙ ap not t) h w
+      where
+        go : (y : Option ℕ) → y ≡ batch_in (text_in Minicomputer q) → is_some y ≡ true → (h : Result ℕ Silence) → heard_as h ≡ hearing_of Minicomputer true a q 64
+            → is_ok h ≡ asks_heard Minicomputer a q
+        go None f g h w = absurd (never-true (sym g))
+        go (Some m) f g (Err s) w = sym (by_heard ∙ ap asks_by (sym w))
+        go (Some m) f g (Ok n) w = sym (by_heard ∙ (ap asks_by (sym w) ∙ (batch_told (text_in Minicomputer q) m (sym f)).0))
 
-pub ruleset batch-asking = (other_frame, other_text, unheard, asked-heard)
+pub ruleset asking_batch = (other_frame, other_text, asked_heard)

@@ -12,11 +12,16 @@ use Rattle.knowledge.specs.declared.Knowledge.{Knowledge}
 use Rattle.knowledge.specs.Knowledge.{dead}
 use Rattle.learning.specs.Learn.{heard_of, learn_of, taught_of}
 use Rattle.recording.specs.Form.{Exchange}
+use Rattle.hearing.specs.declared.Exchange as pair
 use Rattle.hearing.specs.declared.Said.{Said}
 use Rattle.hearing.specs.declared.Said.TheVariants.{Quiet, Answered, Unanswered, Unreadable, Texts}
 
 abbrev pub exchange : List ℕ → List ℕ → Exchange
 exchange q reply = record { request = q; reply = reply }
+
+-- an exchange that is lent
+abbrev pub lent : pair.Exchange → Exchange
+lent e = exchange e.request.now e.reply.now
 
 -- the text of the request, that of the reply's frame, and what it says behind the address digits
 abbrev pub asked : Exchange → List ℕ

@@ -2,21 +2,35 @@
 #![tactic(auto)]
 
 ghost use Rattle.std.specs.Prelude.{◌≡◌};
+ghost use Rattle.frame.specs.Numbers.{silence_number};
 ghost use Rattle.frame.specs.declared.Kind.TheVariants.{Minicomputer};
 ghost use Rattle.banked.specs.Banked.{asks_heard};
-ghost use Rattle.hearing.specs.Hearing.{exchange, silence_said, reply_said, said_of, exchange_taught};
+ghost use Rattle.hearing.specs.Hearing.{lent, silence_said, reply_said, said_of, exchange_taught};
 
-use command::BatchAsked;
-use controller::Heard;
-use frame::{Addressed, Kind, Located, ROOM, Silence};
+use frame::{Kind, ROOM, Silence};
 use knowledge::Knowledge;
 use text::is_word;
 
+// The link to a unit: its address, and its access.
+#[derive(Clone, Copy)]
+pub struct Link {
+    pub address: u8,
+    pub access: u8,
+}
+
+// A request, and the bytes that came back.
+#[derive(Clone, Copy)]
+pub struct Exchange<'a> {
+    pub request: &'a [u8],
+    pub reply: &'a [u8],
+}
+
+// What an exchange says. No Option or Result: each of the five answers is used in a way of its own.
 #[derive(Clone, Copy)]
 pub enum Said {
     // Silence was due, and kept.
     Quiet,
-    // A reply where silence Sn was due.
+    // A reply where silence Sn was due: the number and no Silence, since the definitions said_to and known.answered tell n.
     Answered(u8),
     // Silence where a reply was due.
     Unanswered,
@@ -26,13 +40,15 @@ pub enum Said {
     Texts(usize, usize),
 }
 
-// Silence was due, with this number.
-fn silent(number: u8, reply: &[u8]) -> Said
-    ensures { result ≡ silence_said number reply.now }
+// This silence was due.
+#[tactic(auto, using(crate::proofs::Steps::keeping))]
+fn silent(why: Silence, reply: &[u8]) -> Said
+    ensures { result ≡ silence_said (silence_number why) reply.now }
 {
-    if reply.len() == 0 {
+    if reply.is_empty() {
         return Said::Quiet;
     }
+    let number = u8::from(why);
     Said::Answered(number)
 }
 
@@ -40,10 +56,10 @@ fn silent(number: u8, reply: &[u8]) -> Said
 fn replied(address: u8, n: usize, reply: &[u8]) -> Said
     ensures { result ≡ reply_said address n reply.now }
 {
-    if reply.len() == 0 {
+    if reply.is_empty() {
         return Said::Unanswered;
     }
-    let Located::Text(m) = frame::locate(Kind::Minicomputer, reply) else {
+    let Ok(m) = frame::locate(Kind::Minicomputer, reply) else {
         return Said::Unreadable;
     };
     let digits = [0x30 + address / 10 % 10, 0x30 + address % 10];
@@ -54,17 +70,14 @@ fn replied(address: u8, n: usize, reply: &[u8]) -> Said
 }
 
 // What an exchange with the unit of an address says.
-pub fn hear(address: u8, request: &[u8], reply: &[u8]) -> Said
-    ensures { result ≡ said_of address (exchange request.now reply.now) }
+#[tactic(auto, unfolding(crate::specs::Hearing::said_of))]
+pub fn hear(address: u8, exchange: Exchange) -> Said
+    ensures { result ≡ said_of address (lent exchange.entry) }
 {
-    match frame::address(Kind::Minicomputer, request) {
-        Addressed::Silent(why) => silent(frame::number_of(why), reply),
-        Addressed::Unit(unit, n) => {
-            if unit != address {
-                return silent(frame::number_of(Silence::OtherAddress), reply);
-            }
-            replied(address, n, reply)
-        }
+    match frame::address(Kind::Minicomputer, exchange.request) {
+        Err(why) => silent(why, exchange.reply),
+        Ok(addressed) if addressed.unit != address => silent(Silence::OtherAddress, exchange.reply),
+        Ok(addressed) => replied(address, addressed.length, exchange.reply),
     }
 }
 
@@ -74,48 +87,31 @@ const BATCH_FRAME: usize = 14;
 const BATCH_TEXT_END: usize = 11;
 
 // Whether a request asks the unit with this address for a kept batch, and is not silent. Most are told by their length.
+#[tactic(auto, using(crate::proofs::Asking::asking_batch))]
 pub fn asks_batch(address: u8, request: &[u8]) -> bool
     ensures { result ≡ asks_heard Minicomputer address request.now }
 {
     if request.len() != BATCH_FRAME {
         return false;
     }
-    let BatchAsked::Number(_) = command::batch_asked(&request[1..BATCH_TEXT_END]) else {
+    if command::batch_asked(&request[1..BATCH_TEXT_END]).is_none() {
         return false;
-    };
-    let Heard::Text(_) = controller::hear(Kind::Minicomputer, true, address, request, ROOM) else {
-        return false;
-    };
-    true
+    }
+    controller::hear(Kind::Minicomputer, true, address, request, ROOM).is_ok()
 }
 
 // What an exchange teaches to one who knows the unit's address and its link's access: of the record as the request leaves it, or as it
 // was when the reply came.
-pub fn learn(
-    k: Knowledge,
-    address: u8,
-    access: u8,
-    request: &[u8],
-    reply: &[u8],
-    after: bool,
-) -> Knowledge
-    ensures { result ≡ exchange_taught after address access k (exchange request.now reply.now) }
+#[tactic(auto, using(crate::proofs::Steps::texts_inside), unfolding(crate::specs::Hearing::exchange_taught))]
+pub fn learn(k: Knowledge, link: Link, exchange: Exchange, after: bool) -> Knowledge
+    ensures { result ≡ exchange_taught after link.address link.access k (lent exchange.entry) }
 {
-    match hear(address, request, reply) {
+    match hear(link.address, exchange) {
         Said::Quiet => k,
-        Said::Answered(_) => k.refuted(),
-        Said::Unanswered => k.refuted(),
-        Said::Unreadable => k.refuted(),
+        Said::Answered(_) | Said::Unanswered | Said::Unreadable => k.refuted(),
         Said::Texts(n, m) => {
-            let stop = n + 1;
-            let end = m + 1;
-            learning::learn(
-                k,
-                access,
-                command::parse(&request[1..stop]),
-                &reply[3..end],
-                after,
-            )
+            let request = command::parse(&exchange.request[1..n + 1]);
+            learning::learn(k, link.access, request, &exchange.reply[3..m + 1], after)
         }
     }
 }

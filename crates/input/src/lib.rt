@@ -15,6 +15,8 @@ pub fn read_full<R: Read>(reader: &mut R, buffer: &mut [u8]) -> io::Result<usize
     ensures bytes { IfOk result (λ n. Consumes (R.remaining reader.old) (R.remaining reader.new) (take n buffer.new)) }
     ensures end { IfOk result (λ n. n < length buffer.new → IsAtEnd (R.remaining reader.new)) }
 {
+    // By hand: a `for` takes no steps of as many bytes as each read gives, `read_exact` does not tell how many came before an early end,
+    // and `io::copy` takes every byte through a buffer of its own.
     let mut filled = 0;
     while filled < buffer.len() {
         let count = reader.read(&mut buffer[filled..])?;

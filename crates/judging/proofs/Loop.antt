@@ -1,13 +1,15 @@
 -- Laws for the loop over the exchanges of a recording, and for what is made of where it ends. Assumes nothing.
-use Prim.Native.Nat.{ℕ, suc, ◌+◌, ◌-◌, ◌*◌, ◌≤◌, ◌<◌}
-use mathlib.Core.Bool.{Bool, true, false, not, ◌&&◌, false≢true}
+use Prim.Native.Nat.{ℕ, min, suc, ◌+◌, ◌-◌, ◌*◌, ◌≤◌, ◌<◌}
+use mathlib.Core.Bool.{Bool, true, false, not, ◌&&◌}
 use mathlib.Core.Path.{◌≡◌, refl, sym, ap, subst, ◌∙◌}
 use mathlib.Core.List.{List, [], ◌∷◌}
 use native.Mathlib.Omega.{arith}
 use lib.Dec.{eqb}
-use lib.ListN.{length, get_or, take, drop, length-take}
+use lib.ListN.{length, get_or, take, drop}
+use Rattle.std.proofs.lemmas.List.{length-take, take_min}
 use lib.Seq.{take-length, take-nil, drop-cons, drop-drop}
 use borrow.Author.Tests.{le-ltb, lt-ltb, not-true, not-false}
+use Rattle.std.specs.Prelude.{Option, Some, None, Result, Ok, Err}
 use Rattle.base.specs.Test.{pick, unless, between}
 use Rattle.base.proofs.Tests.{never, between_low}
 use Rattle.state.specs.Field.{address, access, field_range}
@@ -15,11 +17,8 @@ use Rattle.state.specs.Valid as valid
 use Rattle.knowledge.specs.declared.Knowledge.{Knowledge}
 use Rattle.knowledge.specs.Knowledge.{start}
 use Rattle.recording.specs.declared.Spans.{Spans}
-use Rattle.recording.specs.declared.Next.{Next}
-use Rattle.recording.specs.declared.Next.TheVariants as next
+use Rattle.recording.specs.declared.Recorded.{Recorded}
 use Rattle.recording.specs.declared.Refusal.{Refusal}
-use Rattle.recording.specs.declared.Read.{Read}
-use Rattle.recording.specs.declared.Read.TheVariants as read
 use Rattle.recording.specs.Form.{Exchange, Exchanges, whole, cut, before, exchanges_in, Recording, J, recorded, header_width, with_header, recording_of, exchange_at, J-number, counted, summary, refusal_number, read_as}
 use Rattle.recording.specs.Replay.{fits, refuted, not_judged, before_asked}
 use Rattle.recording.specs.Statement.{refused, judged, asks}
@@ -34,7 +33,7 @@ use Rattle.hearing.proofs.Exact.{taught_after}
 use Rattle.reason.specs.declared.Reason.{Reason}
 use Rattle.reason.specs.Reason.{reason_of}
 use Rattle.judging.specs.declared.Progress.{Progress}
-use Rattle.judging.specs.Judge.{living, judgement_for, judgement_of, judgeable, Telling, unread, broken, halted, sets, no_sets, known_by, known_for, known_of, unexplained, fitting, unjudged, because, why_by, why_for, why_of, Followed, WellFormed, Breaks}
+use Rattle.judging.specs.Judge.{living, judgement_for, judgement_of, judgeable, unread, broken, halted, sets, no_sets, known_by, known_for, known_of, unexplained, fitting, unjudged, because, why_by, why_for, why_of, known_after, passed_in, Followed, WellFormed, Breaks}
 
 -- ---- what passes and what is learnt, step by step
 module _ (a c : ℕ) where
@@ -104,7 +103,6 @@ pub record Going (s : List ℕ) (a c m : ℕ) (k : Knowledge) (at i : ℕ) : Typ
   pub inside : at ≤ length s
   pub few : i + header_width ≤ at
   pub most : i ≤ m
-  pub alive : k.alive ≡ true
   pub held : List Exchange
   pub same : recording_of s ≡ recorded a c held
   pub rest : List Exchange
@@ -116,20 +114,20 @@ pub record Going (s : List ℕ) (a c m : ℕ) (k : Knowledge) (at i : ℕ) : Typ
 
 pub going_none : (s : List ℕ) (a c m : ℕ) (k : Knowledge) → WellFormed s a c → k ≡ start a c → Going s a c m k 5 0
 unfolding start
-going_none s a c m k (es, e) w =
+going_none s a c m k h w =
+    let es : List Exchange = h.held in
     let z : m ≡ m - 0 = omega arith in
     let q : passing a c (start a c) (due a m es) ≡ passing a c k (due a (m - 0) es) =
     ap (λ (x : Knowledge). passing a c x (due a m es)) (sym w) ∙ ap (λ (j : ℕ). passing a c k (due a j es)) z in
     let l : length (due a m es) ≡ length (due a (m - 0) es) = ap (λ (j : ℕ). length (due a j es)) z in
     record {
-      inside = long a c es s e;
+      inside = long a c es s h.same;
       few = omega arith;
       most = omega arith;
-      alive = ap living w;
       held = es;
-      same = e;
+      same = h.same;
       rest = es;
-      from = from_header a c es s e;
+      from = from_header a c es s h.same;
       behind = refl;
       count = omega arith;
       known = ap (λ (x : Knowledge). learning a c x (due a m es)) (sym w) ∙ ap (λ (j : ℕ). learning a c k (due a j es)) z;
@@ -146,9 +144,9 @@ begun e (whole rest) es h = (rest, refl, (cc))
 begun e cut es h = absurd (never (cc))
 
 -- where an exchange has its request and its reply
-module _ (s : List ℕ) (at : ℕ) (x : Next) (w : x ≡ exchange_at s at) (p : Spans) (e : x ≡ next.Exchange p) where
+module _ (s : List ℕ) (at : ℕ) (x : Result (Option Spans) Refusal) (w : x ≡ exchange_at s at) (y : Option Spans) (e : x ≡ Ok y) (p : Spans) (d : y ≡ Some p) where
   places : Within s at p
-  places = within s at p (sym w ∙ e)
+  places = within s at p (sym w ∙ (e ∙ ap Ok d))
 
   pub asked-order : p.request ≤ p.stop
   asked-order = places.asked
@@ -162,11 +160,11 @@ module _ (s : List ℕ) (at : ℕ) (x : Next) (w : x ≡ exchange_at s at) (p : 
   pub answered_inside : p.end ≤ length s
   answered_inside = places.inside
 
-pub ruleset spans-inside = (asked-order, asked_inside, answered-order, answered_inside)
+pub ruleset spans_inside = (asked-order, asked_inside, answered-order, answered_inside)
 
 module _ (s : List ℕ) (a c m : ℕ) (k : Knowledge) (at i : ℕ) (g : Going s a c m k at i) where
   -- none of those that are judged is left
-  at_end : due a (m - i) g.rest ≡ [] → Followed s a c m record { passed = i; at = at; known = k }
+  at_end : due a (m - i) g.rest ≡ [] → Followed s a c m (Ok record { passed = i; at = at; known = k })
   unfolding passing learning
   at_end none =
       let z : passing a c k (due a (m - i) g.rest) ≡ 0 = ap (passing a c k) none ∙ none_passes a c k in
@@ -175,334 +173,344 @@ module _ (s : List ℕ) (a c m : ℕ) (k : Knowledge) (at i : ℕ) (g : Going s 
         held = g.held;
         same = g.same;
         count = omega (arith, g.count);
-        all = λ alive. (omega (arith, g.size), sym (g.known ∙ (ap (learning a c k) none ∙ none-learnt a c k)));
-        fewer = λ dead. absurd (false≢true (sym dead ∙ g.alive));
         few = omega (arith, g.few, g.inside);
-        rest = g.from ∙ ap whole (sym g.behind);
+        reached = (omega (arith, g.size), sym (g.known ∙ (ap (learning a c k) none ∙ none-learnt a c k)), g.from ∙ ap whole (sym g.behind));
       }
 
-  pub followed_all : (o : Progress) → m ≤ i → o ≡ record { passed = i; at = at; known = k } → Followed s a c m o
-  followed_all o h v =
+  pub followed_all : m ≤ i → Followed s a c m (Ok record { passed = m; at = at; known = k })
+  followed_all h =
       let z : m - i ≡ 0 = omega arith in
-      subst (Followed s a c m) (sym v) (at_end (ap (λ (j : ℕ). due a j g.rest) z ∙ none_due a))
+      let e : i ≡ m = omega (arith, g.most) in
+      subst (λ (n : ℕ). Followed s a c m (Ok record { passed = n; at = at; known = k })) e (at_end (ap (λ (j : ℕ). due a j g.rest) z ∙ none_due a))
 
-  module _ (x : Next) (w : x ≡ exchange_at s at) where
-    by_next : (y : Next) → x ≡ y → whole g.rest ≡ unrolled s y
-    by_next y e = sym g.from ∙ unroll s at ∙ ap (unrolled s) (sym w ∙ e)
-
-    pub followed_end : (o : Progress) → x ≡ next.End → o ≡ record { passed = i; at = at; known = k } → Followed s a c m o
-    followed_end o e v =
-        let h : whole g.rest ≡ whole [] = by_next next.End e in
-        let none : g.rest ≡ [] = cc in
-        subst (Followed s a c m) (sym v) (at_end (ap (judgeable a) (ap (take (m - i)) none ∙ take-nil (m - i)) ∙ none_due a))
+  module _ (x : Result (Option Spans) Refusal) (w : x ≡ exchange_at s at) where
+    by_next : (z : Result (Option Spans) Refusal) → x ≡ z → whole g.rest ≡ unrolled s z
+    by_next z e = sym g.from ∙ unroll s at ∙ ap (unrolled s) (sym w ∙ e)
 
     -- a recording that is well-formed has no cut exchange
-    pub followed_cut : (o : Progress) → x ≡ next.Cut → Followed s a c m o
-    followed_cut o e = let h : whole g.rest ≡ cut = by_next next.Cut e in absurd (never (cc))
+    pub followed_cut : (n : Refusal) → x ≡ Err n → Followed s a c m (Ok record { passed = i; at = at; known = k })
+    followed_cut n e = let h : whole g.rest ≡ cut = by_next (Err n) e in absurd (never (cc))
 
-    module _ (p : Spans) (e : x ≡ next.Exchange p) where
-      pub one_fits : i < length s
-      one_fits = omega (arith, g.few, places s at x w p e)
+    pub followed_end : (y : Option Spans) → x ≡ Ok y → y ≡ None → Followed s a c m (Ok record { passed = i; at = at; known = k })
+    followed_end y e d =
+        let h : whole g.rest ≡ whole [] = by_next (Ok None) (e ∙ ap Ok d) in
+        let none : g.rest ≡ [] = cc in
+        at_end (ap (judgeable a) (ap (take (m - i)) none ∙ take-nil (m - i)) ∙ none_due a)
 
-      pub one_nearer : length s - p.end < length s - at
-      one_nearer = omega (arith, places s at x w p e)
+  module _ (x : Result (Option Spans) Refusal) (w : x ≡ exchange_at s at) (y : Option Spans) (e : x ≡ Ok y) (p : Spans) (d : y ≡ Some p) where
+    -- the first of the rest
+    first : (rest : List Exchange) × (exchanges_in (length s) (drop p.end s) ≡ whole rest) × (g.rest ≡ spanned s p ∷ rest)
+    first = begun (spanned s p) (exchanges_in (length s) (drop p.end s)) g.rest (by_next x w (Ok (Some p)) (e ∙ ap Ok d))
 
-      -- the first of the rest
-      first : (rest : List Exchange) × (exchanges_in (length s) (drop p.end s) ≡ whole rest) × (g.rest ≡ spanned s p ∷ rest)
-      first = begun (spanned s p) (exchanges_in (length s) (drop p.end s)) g.rest (by_next (next.Exchange p) e)
+    first_taken : i < m → due a (m - i) g.rest ≡ judgeable a (spanned s p ∷ take (m - (i + 1)) first.0)
+    first_taken l =
+        let j : m - i ≡ suc (m - (i + 1)) = omega arith in
+        ap (due a (m - i)) first.2 ∙ ap (λ (n : ℕ). due a n (spanned s p ∷ first.0)) j
 
-      first_taken : i < m → due a (m - i) g.rest ≡ judgeable a (spanned s p ∷ take (m - (i + 1)) first.0)
-      first_taken l =
-          let j : m - i ≡ suc (m - (i + 1)) = omega arith in
-          ap (due a (m - i)) first.2 ∙ ap (λ (n : ℕ). due a n (spanned s p ∷ first.0)) j
+    -- it asks for a kept batch, or not
+    module _ (b : Bool) (f : b ≡ asks_heard Minicomputer a (spanned s p).request) (l : i < m) where
+      pub followed_asked : b ≡ true → Followed s a c m (Ok record { passed = i; at = at; known = k })
+      unfolding before_asked
+      followed_asked h = at_end (first_taken l ∙ simp (sym f ∙ h))
 
-      -- it asks for a kept batch, or not
-      module _ (b : Bool) (f : b ≡ asks_heard Minicomputer a (spanned s p).request) (l : i < m) where
-        pub followed_asked : (o : Progress) → b ≡ true → o ≡ record { passed = i; at = at; known = k } → Followed s a c m o
-        unfolding before_asked
-        followed_asked o h v = subst (Followed s a c m) (sym v) (at_end (first_taken l ∙ simp (sym f ∙ h)))
+      taken : b ≡ false → due a (m - i) g.rest ≡ spanned s p ∷ due a (m - (i + 1)) first.0
+      unfolding before_asked
+      taken h = first_taken l ∙ simp (sym f ∙ h)
 
-        taken : b ≡ false → due a (m - i) g.rest ≡ spanned s p ∷ due a (m - (i + 1)) first.0
-        unfolding before_asked
-        taken h = first_taken l ∙ simp (sym f ∙ h)
+    module _ (b : Bool) (f : b ≡ asks_heard Minicomputer a (spanned s p).request) (n-asked : b ≡ false) (r : Knowledge)
+        (u : r ≡ exchange_taught true a c k (spanned s p)) (l : i < m) where
+      v : r ≡ exchange_learnt a c k (spanned s p)
+      v = u ∙ taught_after a c k (spanned s p)
 
-      module _ (b : Bool) (f : b ≡ asks_heard Minicomputer a (spanned s p).request) (n-asked : b ≡ false) (r : Knowledge)
-          (u : r ≡ exchange_taught true a c k (spanned s p)) (l : i < m) where
-        v : r ≡ exchange_learnt a c k (spanned s p)
-        v = u ∙ taught_after a c k (spanned s p)
+      pub followed_broken : not r.alive ≡ true → Followed s a c m (Err i)
+      unfolding passing learning
+      followed_broken h =
+          let gone = not-true r.alive h in
+          let z : passing a c k (due a (m - i) g.rest) ≡ 0 =
+          ap (passing a c k) (taken b f l n-asked) ∙ stops a c k r (spanned s p) (due a (m - (i + 1)) first.0) v gone in
+          let n : length (due a (m - i) g.rest) ≡ suc (length (due a (m - (i + 1)) first.0)) = ap length (taken b f l n-asked) in
+          record {
+            held = g.held;
+            same = g.same;
+            count = omega (arith, g.count);
+            few = omega (arith, g.few, g.inside);
+            reached = omega (arith, g.size);
+          }
 
-        pub followed_broken : (o : Progress) → not r.alive ≡ true → o ≡ record { passed = i; at = at; known = r } → Followed s a c m o
-        unfolding passing learning
-        followed_broken o h w =
-            let gone = not-true r.alive h in
-            let z : passing a c k (due a (m - i) g.rest) ≡ 0 =
-            ap (passing a c k) (taken b f l n-asked) ∙ stops a c k r (spanned s p) (due a (m - (i + 1)) first.0) v gone in
-            let n : length (due a (m - i) g.rest) ≡ suc (length (due a (m - (i + 1)) first.0)) = ap length (taken b f l n-asked) in
-            subst (Followed s a c m) (sym w) record {
-              held = g.held;
-              same = g.same;
-              count = omega (arith, g.count);
-              all = λ alive. absurd (false≢true (sym gone ∙ alive));
-              fewer = λ dead. omega (arith, g.size);
-              few = omega (arith, g.few, g.inside);
-              rest = g.from ∙ ap whole (sym g.behind);
-            }
+      pub one_passed : not r.alive ≡ false → Going s a c m r p.end (i + 1)
+      one_passed h =
+          let living = not-false r.alive h in
+          let more : List Exchange = due a (m - (i + 1)) first.0 in
+          let z : passing a c k (due a (m - i) g.rest) ≡ suc (passing a c r more) =
+          ap (passing a c k) (taken b f l n-asked) ∙ passes a c k r (spanned s p) more v living in
+          let n : length (due a (m - i) g.rest) ≡ suc (length more) = ap length (taken b f l n-asked) in
+          record {
+            inside = (places s at x w y e p d).inside;
+            few = omega (arith, g.few, places s at x w y e p d);
+            most = omega arith;
+            held = g.held;
+            same = g.same;
+            rest = first.0;
+            from = first.1;
+            behind = sym (drop-drop 1 i g.held) ∙ ap (drop 1) (g.behind ∙ first.2);
+            count = omega (arith, g.count);
+            known = g.known ∙ (ap (learning a c k) (taken b f l n-asked) ∙ learns a c k r (spanned s p) more v);
+            size = omega (arith, g.size);
+          }
 
-        pub one_passed : not r.alive ≡ false → Going s a c m r p.end (i + 1)
-        one_passed h =
-            let living = not-false r.alive h in
-            let more : List Exchange = due a (m - (i + 1)) first.0 in
-            let z : passing a c k (due a (m - i) g.rest) ≡ suc (passing a c r more) =
-            ap (passing a c k) (taken b f l n-asked) ∙ passes a c k r (spanned s p) more v living in
-            let n : length (due a (m - i) g.rest) ≡ suc (length more) = ap length (taken b f l n-asked) in
-            record {
-              inside = (places s at x w p e).inside;
-              few = omega (arith, g.few, places s at x w p e);
-              most = omega arith;
-              alive = living;
-              held = g.held;
-              same = g.same;
-              rest = first.0;
-              from = first.1;
-              behind = sym (drop-drop 1 i g.held) ∙ ap (drop 1) (g.behind ∙ first.2);
-              count = omega (arith, g.count);
-              known = g.known ∙ (ap (learning a c k) (taken b f l n-asked) ∙ learns a c k r (spanned s p) more v);
-              size = omega (arith, g.size);
-            }
-
-pub ruleset following = (followed_all, followed_end, followed_cut, followed_asked, followed_broken)
+pub ruleset following = (going_none, followed_all, followed_end, followed_cut, followed_asked, followed_broken, one_passed)
 
 -- ---- what was read of a recording
-module _ (s : List ℕ) (x : Read) (e : read_as x ≡ summary (recording_of s)) where
-  module _ (k : Refusal) (z : x ≡ read.Refused k) where
-    -- it is refused by that number
-    unread_so : recording_of s ≡ J (refusal_number k)
-    unread_so = go (recording_of s) (sym e ∙ ap read_as z)
-      where
-        go : (y : Recording) → summary y ≡ J-number (refusal_number k) → y ≡ J (refusal_number k)
-        go (J m) h = let i : m ≡ refusal_number k = cc in ap J i
-        go (recorded a c es) h = absurd (never (cc))
+module _ (s : List ℕ) (k : Refusal) (e : read_as (Err k) ≡ summary (recording_of s)) where
+  -- it is refused by that number
+  unread_so : recording_of s ≡ J (refusal_number k)
+  unread_so = go (recording_of s) (sym e)
+    where
+      go : (y : Recording) → summary y ≡ J-number (refusal_number k) → y ≡ J (refusal_number k)
+      go (J m) h = let i : m ≡ refusal_number k = cc in ap J i
+      go (recorded a c es) h = absurd (never (cc))
 
-    pub judged-refused : refused (refusal_number k) ≡ judgement_of s
-    unfolding judgement_of
-    judged-refused = sym (ap judgement_for unread_so)
+  pub judged-refused : refused (refusal_number k) ≡ judgement_of s
+  unfolding judgement_of
+  judged-refused = sym (ap judgement_for unread_so)
 
-    pub why_refused : unexplained (refusal_number k) ≡ why_of s
-    unfolding why_of
-    why_refused = sym (ap why_for unread_so)
+  pub why_refused : unexplained (refusal_number k) ≡ why_of s
+  unfolding why_of
+  why_refused = sym (ap why_for unread_so)
 
-    pub known-refused : (y : Telling × List ℕ) (n : ℕ) → y ≡ (unread (refusal_number k), no_sets) → y ≡ known_of s n
-    unfolding known_of
-    known-refused y n w = w ∙ sym (ap (known_for n) unread_so)
-
-  module _ (a c n : ℕ) (z : x ≡ read.Recorded a c n) where
-    pub read_so : (es : List Exchange) × (recording_of s ≡ recorded a c es) × (length es ≡ n)
-    read_so = go (recording_of s) (sym e ∙ ap read_as z)
-      where
-        go : (y : Recording) → summary y ≡ counted a c n → (es : List Exchange) × (y ≡ recorded a c es) × (length es ≡ n)
-        go (J m) h = absurd (never (cc))
-        go (recorded b d es) h =
-            let p : b ≡ a = cc in
-            let q : d ≡ c = cc in
-            (es, ap (λ (i : ℕ). recorded i d es) p ∙ ap (λ (i : ℕ). recorded a i es) q, (cc))
-
-    pub read_formed : WellFormed s a c
-    read_formed = (read_so.0, read_so.1)
-
-    -- ---- all of them are followed
-    module _ (p : Progress) (f : Followed s a c n p) where
-      -- they are those that were counted
-      all_taken : (recording_of s ≡ recorded a c f.held) × (length f.held ≡ n) × (take n f.held ≡ f.held)
-      all_taken =
-          let h : recorded a c f.held ≡ recorded a c read_so.0 = sym f.same ∙ read_so.1 in
-          let es : f.held ≡ read_so.0 = cc in
-          let l : length f.held ≡ n = ap length es ∙ read_so.2 in
-          (f.same, l, ap (λ (i : ℕ). take i f.held) (sym l) ∙ take-length f.held)
-
-      -- those that are judged
-      abbrev judged_ones : List Exchange
-      judged_ones = judgeable a f.held
-
-      due_all : due a n f.held ≡ judged_ones
-      due_all = let (same, l, t) = all_taken in ap (judgeable a) t
-
-      passed_so : passed (exchange_learnt a c) living (start a c) judged_ones ≡ p.passed
-      passed_so = sym (f.count ∙ ap (passed (exchange_learnt a c) living (start a c)) due_all)
-
-      judged_by : judgement_of s ≡ judged (answer_from (exchange_learnt a c) living p.passed (length judged_ones) n)
-      unfolding judgement_of answer_of
-      judged_by =
-          let (same, l, t) = all_taken in
-          ap judgement_for same ∙ (ap (λ (i : ℕ). judged (answer_from (exchange_learnt a c) living i (length judged_ones) (length f.held))) passed_so
-          ∙ ap (λ (i : ℕ). judged (answer_from (exchange_learnt a c) living p.passed (length judged_ones) i)) l)
-
-      why_by_lem : why_of s ≡ why_by a c f.held p.passed (length judged_ones) n
-      unfolding why_of
-      why_by_lem =
-          let (same, l, t) = all_taken in
-          ap why_for same ∙ (ap (λ (i : ℕ). why_by a c f.held i (length judged_ones) (length f.held)) passed_so
-          ∙ ap (λ (i : ℕ). why_by a c f.held p.passed (length judged_ones) i) l)
-
-      -- one does not pass
-      fewer-passed : not p.known.alive ≡ true → p.passed < length judged_ones
-      fewer-passed dead = let k = ap length due_all in omega (arith, f.fewer (not-true p.known.alive dead))
-
-      pub judged-refuted : not p.known.alive ≡ true → judged (refuted (p.passed + 1) n) ≡ judgement_of s
-      judged-refuted dead = sym (judged_by ∙ simp (lt-ltb p.passed (length judged_ones) (fewer-passed dead)))
-
-      pub breaks : not p.known.alive ≡ true → Breaks s a c n p.passed
-      breaks dead =
-          let (same, l, t) = all_taken in
-          (f.held, same, l, passed_so, fewer-passed dead, omega (arith, l, fewer-passed dead, before_few (asks a) f.held))
-
-      -- all pass
-      module _ (alive : not p.known.alive ≡ false) where
-        all_passed : p.passed ≡ length judged_ones
-        all_passed = (f.all (not-false p.known.alive alive)).0 ∙ ap length due_all
-
-        -- one is left, which asks for a kept batch
-        module _ (fewer : p.passed < n) where
-          one_left : length judged_ones < n
-          one_left = let e = all_passed in omega arith
-
-          pub judged-halted : judged (not_judged (p.passed + 1) n) ≡ judgement_of s
-          judged-halted =
-              ap (λ (i : ℕ). judged (not_judged (i + 1) n)) all_passed
-              ∙ sym (judged_by ∙ simp (le-ltb p.passed (length judged_ones) (let e = all_passed in omega arith), lt-ltb (length judged_ones) n one_left))
-
-          pub why_halted : unjudged (p.passed + 1) n ≡ why_of s
-          why_halted =
-              ap (λ (i : ℕ). unjudged (i + 1) n) all_passed
-              ∙ sym (why_by_lem ∙ simp (le-ltb p.passed (length judged_ones) (let e = all_passed in omega arith), lt-ltb (length judged_ones) n one_left))
-
-        -- none is
-        module _ (every : n ≤ p.passed) where
-          none_left : n ≤ length judged_ones
-          none_left = let e = all_passed in omega arith
-
-          pub judged-fits : judged (fits n) ≡ judgement_of s
-          judged-fits =
-              sym (judged_by ∙ simp (le-ltb p.passed (length judged_ones) (let e = all_passed in omega arith), le-ltb (length judged_ones) n none_left))
-
-          pub why_fits : fitting n ≡ why_of s
-          why_fits =
-              sym (why_by_lem ∙ simp (le-ltb p.passed (length judged_ones) (let e = all_passed in omega arith), le-ltb (length judged_ones) n none_left))
-
-pub ruleset judging = (judged-refused, judged-refuted, judged-halted, judged-fits)
-
--- ---- so many of them are followed; n are read in all
-module _ (s : List ℕ) (a c m : ℕ) (p : Progress) (f : Followed s a c m p) where
-  abbrev judged_now : List Exchange
-  judged_now = due a m f.held
-
-  known_by_lem : known_of s m ≡ known_by p.passed (length judged_now) (length (take m f.held)) (learnt (exchange_learnt a c) (start a c) judged_now)
+  pub known-refused : (n : ℕ) → (unread (refusal_number k), no_sets) ≡ known_of s n
   unfolding known_of
-  known_by_lem =
-      ap (known_for m) f.same
-      ∙ ap (λ (i : ℕ). known_by i (length judged_now) (length (take m f.held)) (learnt (exchange_learnt a c) (start a c) judged_now)) (sym f.count)
+  known-refused n = sym (ap (known_for n) unread_so)
 
-  pub known-broken : (y : Telling × List ℕ) → not p.known.alive ≡ true → y ≡ (broken (p.passed + 1), no_sets) → y ≡ known_of s m
-  known-broken y dead w = w ∙ sym (known_by_lem ∙ simp (lt-ltb p.passed (length judged_now) (f.fewer (not-true p.known.alive dead))))
+module _ (s : List ℕ) (x : Recorded) (e : read_as (Ok x) ≡ summary (recording_of s)) where
+  abbrev a : ℕ
+  a = x.address
 
-  module _ (x : Read) (e : read_as x ≡ summary (recording_of s)) (n : ℕ) (z : x ≡ read.Recorded a c n) (alive : not p.known.alive ≡ false) where
-    -- as many are held as were counted
-    held_long : length f.held ≡ n
-    held_long =
-        let (es, r, l) = read_so s x e a c n z in
-        let h : recorded a c f.held ≡ recorded a c es = sym f.same ∙ r in
-        let q : f.held ≡ es = cc in
-        ap length q ∙ l
+  abbrev c : ℕ
+  c = x.access
 
-    passed_now : p.passed ≡ length judged_now
-    passed_now = (f.all (not-false p.known.alive alive)).0
+  abbrev n : ℕ
+  n = x.count
 
-    not-fewer : (p.passed < length judged_now → ⊥)
-    not-fewer h = let k = passed_now in omega arith
+  pub read_so : (es : List Exchange) × (recording_of s ≡ recorded a c es) × (length es ≡ n)
+  read_so = go (recording_of s) (sym e)
+    where
+      go : (y : Recording) → summary y ≡ counted a c n → (es : List Exchange) × (y ≡ recorded a c es) × (length es ≡ n)
+      go (J m) h = absurd (never (cc))
+      go (recorded b d es) h =
+          let p : b ≡ a = cc in
+          let q : d ≡ c = cc in
+          (es, ap (λ (i : ℕ). recorded i d es) p ∙ ap (λ (i : ℕ). recorded a i es) q, (cc))
 
-    pub known-halted : (y : Telling × List ℕ) → p.passed < m → p.passed < n → y ≡ (halted (p.passed + 1), no_sets) → y ≡ known_of s m
-    known-halted y l h w =
-        let k = passed_now in
-        let j : length judged_now < length (take m f.held) = omega (arith, length-take m f.held, held_long) in
-        w ∙ (ap (λ (i : ℕ). (halted (i + 1), no_sets)) passed_now
-        ∙ sym (known_by_lem ∙ simp (le-ltb p.passed (length judged_now) (omega arith), lt-ltb (length judged_now) (length (take m f.held)) j)))
+  pub read_formed : WellFormed s a c
+  read_formed = record { held = read_so.0; same = read_so.1 }
 
-    known_all : length (take m f.held) ≤ p.passed → (sets, p.known.codes) ≡ known_of s m
-    known_all h =
-        let k = passed_now in
-        sym (known_by_lem ∙ simp (le-ltb p.passed (length judged_now) (omega arith), le-ltb (length judged_now) (length (take m f.held)) (omega arith))
-        (ap (λ (y : Knowledge). (sets, y.codes)) (sym (f.all (not-false p.known.alive alive)).1)))
+  -- ---- all of them are followed
+  module _ (r : Result Progress ℕ) (f : Followed s a c n r) where
+    -- they are those that were counted
+    all_taken : (recording_of s ≡ recorded a c f.held) × (length f.held ≡ n) × (take n f.held ≡ f.held)
+    all_taken =
+        let h : recorded a c f.held ≡ recorded a c read_so.0 = sym f.same ∙ read_so.1 in
+        let es : f.held ≡ read_so.0 = cc in
+        let l : length f.held ≡ n = ap length es ∙ read_so.2 in
+        (f.same, l, ap (λ (i : ℕ). take i f.held) (sym l) ∙ take-length f.held)
 
-    -- as many as were asked for, or as there are
-    pub known-sets : (y : Telling × List ℕ) → m ≤ p.passed → y ≡ (sets, p.known.codes) → y ≡ known_of s m
-    known-sets y h w = w ∙ known_all (omega (arith, length-take m f.held))
+    -- those that are judged
+    abbrev judged_ones : List Exchange
+    judged_ones = judgeable a f.held
 
-    pub known-sets_all : (y : Telling × List ℕ) → n ≤ p.passed → y ≡ (sets, p.known.codes) → y ≡ known_of s m
-    known-sets_all y h w = w ∙ known_all (omega (arith, length-take m f.held, held_long))
+    due_all : due a n f.held ≡ judged_ones
+    due_all = let (same, l, t) = all_taken in ap (judgeable a) t
 
-pub ruleset knowing = (known-refused, known-broken, known-halted, known-sets, known-sets_all)
+    passed_so : passed (exchange_learnt a c) living (start a c) judged_ones ≡ passed_in r
+    passed_so = sym (f.count ∙ ap (passed (exchange_learnt a c) living (start a c)) due_all)
+
+    judged_by : judgement_of s ≡ judged (answer_from (exchange_learnt a c) living (passed_in r) (length judged_ones) n)
+    unfolding judgement_of answer_of
+    judged_by =
+        let (same, l, t) = all_taken in
+        ap judgement_for same ∙ (ap (λ (i : ℕ). judged (answer_from (exchange_learnt a c) living i (length judged_ones) (length f.held))) passed_so
+        ∙ ap (λ (i : ℕ). judged (answer_from (exchange_learnt a c) living (passed_in r) (length judged_ones) i)) l)
+
+    why_by_lem : why_of s ≡ why_by a c f.held (passed_in r) (length judged_ones) n
+    unfolding why_of
+    why_by_lem =
+        let (same, l, t) = all_taken in
+        ap why_for same ∙ (ap (λ (i : ℕ). why_by a c f.held i (length judged_ones) (length f.held)) passed_so
+        ∙ ap (λ (i : ℕ). why_by a c f.held (passed_in r) (length judged_ones) i) l)
+
+  -- one does not pass
+  module _ (p : ℕ) (f : Followed s a c n (Err p)) where
+    fewer-passed : p < length (judged_ones (Err p) f)
+    fewer-passed = let k = ap length (due_all (Err p) f) in omega (arith, f.reached)
+
+    pub judged-refuted : judged (refuted (p + 1) n) ≡ judgement_of s
+    judged-refuted = sym (judged_by (Err p) f ∙ simp (lt-ltb p (length (judged_ones (Err p) f)) fewer-passed))
+
+    pub breaks : Breaks s a c n p
+    breaks =
+        let (same, l, t) = all_taken (Err p) f in
+        record {
+          held = f.held;
+          same = same;
+          counted = l;
+          passing = passed_so (Err p) f;
+          fewer = fewer-passed;
+          inside = omega (arith, l, fewer-passed, before_few (asks a) f.held);
+        }
+
+  -- all pass
+  module _ (p : Progress) (f : Followed s a c n (Ok p)) where
+    abbrev all_judged : List Exchange
+    all_judged = judged_ones (Ok p) f
+
+    all_passed : p.passed ≡ length all_judged
+    all_passed = f.reached.0 ∙ ap length (due_all (Ok p) f)
+
+    -- one is left, which asks for a kept batch
+    module _ (fewer : p.passed < n) where
+      one_left : length all_judged < n
+      one_left = let e = all_passed in omega arith
+
+      pub judged-halted : judged (not_judged (p.passed + 1) n) ≡ judgement_of s
+      judged-halted =
+          ap (λ (i : ℕ). judged (not_judged (i + 1) n)) all_passed
+          ∙ sym (judged_by (Ok p) f ∙ simp (le-ltb p.passed (length all_judged) (let e = all_passed in omega arith), lt-ltb (length all_judged) n one_left))
+
+      pub why_halted : unjudged (p.passed + 1) n ≡ why_of s
+      why_halted =
+          ap (λ (i : ℕ). unjudged (i + 1) n) all_passed
+          ∙ sym (why_by_lem (Ok p) f ∙ simp (le-ltb p.passed (length all_judged) (let e = all_passed in omega arith), lt-ltb (length all_judged) n one_left))
+
+    -- none is
+    module _ (every : n ≤ p.passed) where
+      none_left : n ≤ length all_judged
+      none_left = let e = all_passed in omega arith
+
+      pub judged-fits : judged (fits n) ≡ judgement_of s
+      judged-fits =
+          sym (judged_by (Ok p) f ∙ simp (le-ltb p.passed (length all_judged) (let e = all_passed in omega arith), le-ltb (length all_judged) n none_left))
+
+      pub why_fits : fitting n ≡ why_of s
+      why_fits =
+          sym (why_by_lem (Ok p) f ∙ simp (le-ltb p.passed (length all_judged) (let e = all_passed in omega arith), le-ltb (length all_judged) n none_left))
+
+  -- ---- so many of them are followed, or all
+  module _ (k m : ℕ) (least : m ≡ min k n) where
+    module _ (r : Result Progress ℕ) (f : Followed s a c m r) where
+      abbrev judged_now : List Exchange
+      judged_now = due a m f.held
+
+      -- as many are held as were counted
+      held_long : length f.held ≡ n
+      held_long =
+          let h : recorded a c f.held ≡ recorded a c read_so.0 = sym f.same ∙ read_so.1 in
+          let i : f.held ≡ read_so.0 = cc in
+          ap length i ∙ read_so.2
+
+      least_held : min k (length f.held) ≡ m
+      least_held = ap (min k) held_long ∙ sym least
+
+      same-taken : take k f.held ≡ take m f.held
+      same-taken = sym (take_min k f.held) ∙ ap (λ (i : ℕ). take i f.held) least_held
+
+      taken_long : length (take m f.held) ≡ m
+      taken_long = ap length (sym same-taken) ∙ (length-take k f.held ∙ least_held)
+
+      known_by_lem : known_of s k ≡ known_by (passed_in r) (length judged_now) (length (take m f.held)) (learnt (exchange_learnt a c) (start a c) judged_now)
+      unfolding known_of
+      known_by_lem =
+          ap (known_for k) f.same
+          ∙ (ap (λ (es : List Exchange). known_after a c es) same-taken
+          ∙ ap (λ (i : ℕ). known_by i (length judged_now) (length (take m f.held)) (learnt (exchange_learnt a c) (start a c) judged_now)) (sym f.count))
+
+    pub known-broken : (p : ℕ) → Followed s a c m (Err p) → (broken (p + 1), no_sets) ≡ known_of s k
+    known-broken p f = sym (known_by_lem (Err p) f ∙ simp (lt-ltb p (length (judged_now (Err p) f)) f.reached))
+
+    module _ (p : Progress) (f : Followed s a c m (Ok p)) where
+      pub known-halted : p.passed < m → (halted (p.passed + 1), no_sets) ≡ known_of s k
+      known-halted h =
+          let l = f.reached.0 in
+          ap (λ (i : ℕ). (halted (i + 1), no_sets)) l
+          ∙ sym (known_by_lem (Ok p) f ∙ simp (le-ltb p.passed (length (judged_now (Ok p) f)) (omega arith), lt-ltb (length (judged_now (Ok p) f)) (length (take m f.held)) (omega (arith, taken_long (Ok p) f))))
+
+      pub known-sets : m ≤ p.passed → (sets, p.known.codes) ≡ known_of s k
+      known-sets h =
+          let l = f.reached.0 in
+          sym (known_by_lem (Ok p) f ∙ simp (le-ltb p.passed (length (judged_now (Ok p) f)) (omega arith), le-ltb (length (judged_now (Ok p) f)) (length (take m f.held)) (omega (arith, taken_long (Ok p) f)))
+          (ap (λ (y : Knowledge). (sets, y.codes)) (sym f.reached.1)))
+
+pub ruleset judging = (read_formed, judged-refused, judged-refuted, judged-halted, judged-fits)
+
+pub ruleset knowing = (read_formed, known-refused, known-broken, known-halted, known-sets)
+
+pub ruleset explaining = (read_formed, breaks, why_refused, why_halted, why_fits)
 
 -- ---- the exchange behind those that passed
 pub breaks_formed : (s : List ℕ) (a c n p : ℕ) → Breaks s a c n p → WellFormed s a c
-breaks_formed s a c n p b = (b.0, b.1)
+breaks_formed s a c n p b = record { held = b.held; same = b.same }
 
-module _ (s : List ℕ) (a c n p : ℕ) (b : Breaks s a c n p) (o : Progress) (f : Followed s a c p o) where
+module _ (s : List ℕ) (a c n p : ℕ) (b : Breaks s a c n p) where
   abbrev es : List Exchange
-  es = b.0
+  es = b.held
 
-  -- they are the same exchanges
-  same-held : f.held ≡ es
-  same-held = let h : recorded a c f.held ≡ recorded a c es = sym f.same ∙ b.1 in cc
+  module _ (r : Result Progress ℕ) (f : Followed s a c p r) where
+    -- they are the same exchanges
+    same-held : f.held ≡ es
+    same-held = let h : recorded a c f.held ≡ recorded a c es = sym f.same ∙ b.same in cc
 
-  -- the first p of them are judged
-  due_so : due a p f.held ≡ take p (judgeable a es)
-  due_so = ap (due a p) same-held ∙ before_taken (asks a) es p
+    -- the first p of them are judged
+    due_so : due a p f.held ≡ take p (judgeable a es)
+    due_so = ap (due a p) same-held ∙ before_taken (asks a) es p
 
-  first_so : take p (judgeable a es) ≡ take p es
-  first_so = before_first (asks a) es p (let l = b.4 in omega arith)
+    first_so : take p (judgeable a es) ≡ take p es
+    first_so = before_first (asks a) es p (let l = b.fewer in omega arith)
 
-  -- all of those pass
-  count_so : o.passed ≡ p
-  count_so =
-      f.count ∙ (ap (passed (exchange_learnt a c) living (start a c)) due_so
-      ∙ (ap (λ (i : ℕ). passed (exchange_learnt a c) living (start a c) (take i (judgeable a es))) (sym b.3)
-      ∙ (passed_those (exchange_learnt a c) living (judgeable a es) (start a c) ∙ b.3)))
+    -- all of those pass
+    count_so : passed_in r ≡ p
+    count_so =
+        f.count ∙ (ap (passed (exchange_learnt a c) living (start a c)) due_so
+        ∙ (ap (λ (i : ℕ). passed (exchange_learnt a c) living (start a c) (take i (judgeable a es))) (sym b.passing)
+        ∙ (passed_those (exchange_learnt a c) living (judgeable a es) (start a c) ∙ b.passing)))
 
-  known_so : o.known ≡ learnt (exchange_learnt a c) (start a c) (take p es)
-  known_so = go o.known.alive refl
-    where
-      go : (t : Bool) → o.known.alive ≡ t → o.known ≡ learnt (exchange_learnt a c) (start a c) (take p es)
-      go true alive = (f.all alive).1 ∙ ap (learnt (exchange_learnt a c) (start a c)) (due_so ∙ first_so)
-      go false dead =
-          let h = f.fewer dead in
-          let q = count_so in
-          let l = length-take p (judgeable a es) in
-          let k = ap length due_so in
-          absurd (omega arith)
+  pub never_broken : (r : Result Progress ℕ) → Followed s a c p r → (i : ℕ) → r ≡ Err i → ⊥
+  never_broken r g i z =
+      let f : Followed s a c p (Err i) = subst (Followed s a c p) z g in
+      let q = count_so (Err i) f in
+      let l = length-take p (judgeable a es) in
+      let k = ap length (due_so (Err i) f) in
+      omega (arith, f.reached)
 
-  module _ (x : Next) (w : x ≡ exchange_at s o.at) where
-    by_place : (y : Next) → x ≡ y → whole (get_or es p (exchange [] []) ∷ drop (suc p) es) ≡ unrolled s y
-    by_place y e =
-        let l : p < length es = omega (arith, b.4, before_few (asks a) es) in
-        sym (f.rest ∙ (ap whole (ap (λ (i : ℕ). drop i f.held) count_so ∙ ap (drop p) same-held) ∙ ap whole (drop-cons es p (exchange [] []) l)))
-        ∙ (unroll s o.at ∙ ap (unrolled s) (sym w ∙ e))
+  module _ (r : Result Progress ℕ) (g : Followed s a c p r) (o : Progress) (z : r ≡ Ok o) where
+    f : Followed s a c p (Ok o)
+    f = subst (Followed s a c p) z g
 
-    pub no_end : x ≡ next.End → fitting n ≡ why_of s
-    no_end e = let h : whole (get_or es p (exchange [] []) ∷ drop (suc p) es) ≡ whole [] = by_place next.End e in absurd (never (cc))
+    known_so : o.known ≡ learnt (exchange_learnt a c) (start a c) (take p es)
+    known_so = f.reached.1 ∙ ap (learnt (exchange_learnt a c) (start a c)) (due_so (Ok o) f ∙ first_so (Ok o) f)
 
-    pub no_cut : x ≡ next.Cut → fitting n ≡ why_of s
-    no_cut e = let h : whole (get_or es p (exchange [] []) ∷ drop (suc p) es) ≡ cut = by_place next.Cut e in absurd (never (cc))
+    module _ (x : Result (Option Spans) Refusal) (w : x ≡ exchange_at s o.at) where
+      by_place : (y : Result (Option Spans) Refusal) → x ≡ y → whole (get_or es p (exchange [] []) ∷ drop (suc p) es) ≡ unrolled s y
+      by_place y e =
+          let l : p < length es = omega (arith, b.fewer, before_few (asks a) es) in
+          sym (f.reached.2 ∙ (ap whole (ap (λ (i : ℕ). drop i f.held) (count_so (Ok o) f) ∙ ap (drop p) (same-held (Ok o) f)) ∙ ap whole (drop-cons es p (exchange [] []) l)))
+          ∙ (unroll s o.at ∙ ap (unrolled s) (sym w ∙ e))
 
-    pub why_refuted : (q : Spans) (r : Reason) → x ≡ next.Exchange q → r ≡ reason_of a c o.known (spanned s q) → because (p + 1) n r ≡ why_of s
-    unfolding why_of
-    why_refuted q r e v =
-        let g = begun (spanned s q) (exchanges_in (length s) (drop q.end s)) (get_or es p (exchange [] []) ∷ drop (suc p) es) (by_place (next.Exchange q) e) in
-        let first : spanned s q ≡ get_or es p (exchange [] []) = let h = g.2 in cc in
-        let reason_so : r ≡ reason_of a c (learnt (exchange_learnt a c) (start a c) (take p es)) (get_or es p (exchange [] [])) =
-        v ∙ (ap (λ (k : Knowledge). reason_of a c k (spanned s q)) known_so ∙ ap (reason_of a c (learnt (exchange_learnt a c) (start a c) (take p es))) first) in
-        ap (because (p + 1) n) reason_so
-        ∙ sym (ap why_for b.1 ∙ (ap (λ (i : ℕ). why_by a c es i (length (judgeable a es)) (length es)) b.3
-        ∙ (ap (why_by a c es p (length (judgeable a es))) b.2 ∙ simp (lt-ltb p (length (judgeable a es)) b.4))))
+      pub never_cut : (n : Refusal) → x ≡ Err n → ⊥
+      never_cut n e = let h : whole (get_or es p (exchange [] []) ∷ drop (suc p) es) ≡ cut = by_place (Err n) e in never (cc)
 
-pub ruleset explaining = (why_refused, why_halted, why_fits)
+      module _ (y : Option Spans) (e : x ≡ Ok y) where
+        pub never_end : y ≡ None → ⊥
+        never_end d = let h : whole (get_or es p (exchange [] []) ∷ drop (suc p) es) ≡ whole [] = by_place (Ok None) (e ∙ ap Ok d) in never (cc)
 
-pub ruleset breaking = (no_end, no_cut, why_refuted)
+        pub why_refuted : (q : Spans) (u : Reason) → y ≡ Some q → u ≡ reason_of a c o.known (spanned s q) → because (p + 1) n u ≡ why_of s
+        unfolding why_of
+        why_refuted q u d v =
+            let g = begun (spanned s q) (exchanges_in (length s) (drop q.end s)) (get_or es p (exchange [] []) ∷ drop (suc p) es) (by_place (Ok (Some q)) (e ∙ ap Ok d)) in
+            let first : spanned s q ≡ get_or es p (exchange [] []) = let h = g.2 in cc in
+            let reason_so : u ≡ reason_of a c (learnt (exchange_learnt a c) (start a c) (take p es)) (get_or es p (exchange [] [])) =
+            v ∙ (ap (λ (k : Knowledge). reason_of a c k (spanned s q)) known_so ∙ ap (reason_of a c (learnt (exchange_learnt a c) (start a c) (take p es))) first) in
+            ap (because (p + 1) n) reason_so
+            ∙ sym (ap why_for b.same ∙ (ap (λ (i : ℕ). why_by a c es i (length (judgeable a es)) (length es)) b.passing
+            ∙ (ap (why_by a c es p (length (judgeable a es))) b.counted ∙ simp (lt-ltb p (length (judgeable a es)) b.fewer))))
+
+pub ruleset breaking = (breaks_formed, never_broken, never_end, never_cut, why_refuted)

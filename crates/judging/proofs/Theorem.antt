@@ -11,6 +11,7 @@ use lib.Dec.{eqb, ltb}
 use lib.ListN.{length, get_or, take, drop, length-take}
 use lib.Seq.{length-take-le, take_all, take-suc, take-take}
 use borrow.Author.Tests.{ltb-true, ltb-false}
+use Rattle.std.specs.Prelude.{Ok}
 use Rattle.base.specs.Test.{pick, unless, between}
 use Rattle.base.proofs.Tests.{and_left, and_right}
 use Rattle.state.specs.declared.Record.{Record}
@@ -26,6 +27,7 @@ use Rattle.recording.specs.Replay.{Answer, fits, refuted, not_judged, NoneAsked,
 use Rattle.recording.specs.Statement.{Fits, asks, Judgement, judged, RightOf, Demand3}
 use Rattle.recording.specs.Alone.{Agrees, next}
 use Rattle.recording.specs.Alone as alone
+use Rattle.recording.specs.Known as known
 use Rattle.recording.specs.Known.{MayHold, InProduct, ToldOf, RightlyTold, Because, WhyOf, RightlyReasoned}
 use Rattle.recording.specs.Progress.{passed, learnt, answer_of}
 use Rattle.recording.proofs.Exact.{passed_those, passed-not, passed_bound, Exactly, From, leads, learnt_sound, learnt_alive, right}
@@ -37,7 +39,8 @@ use Rattle.hearing.proofs.Exact.{onward, back, keeps}
 use Rattle.reason.specs.declared.Reason.{Reason}
 use Rattle.reason.specs.Reason.{reason_of, reason_as}
 use Rattle.reason.proofs.Holds.{reason_holds}
-use Rattle.judging.specs.Judge.{living, judgeable, judgement_for, judgement_of, Telling, broken, halted, sets, no_sets, known_for, known_of, told_by, Caused, fitting, unjudged, because, why_for, why_of, reasoned_by}
+use Rattle.judging.specs.declared.Cause.{Cause}
+use Rattle.judging.specs.Judge.{living, judgeable, judgement_for, judgement_of, Telling, broken, halted, sets, no_sets, known_for, known_of, told_by, Caused, fitting, unjudged, because, caused_as, why_for, why_of, reasoned_by}
 
 -- ---- an answer that is right of one predicate is right of another that it implies and that implies it
 right_along : {E : Type 0} (asks : E → Bool) (F G : List E → Type 0) → ((es : List E) → F es → G es) → ((es : List E) → G es → F es)
@@ -321,3 +324,28 @@ known_so bs k x e = subst (λ (y : Telling × List ℕ). RightlyTold bs k (told_
 
 pub why_so : (bs : List ℕ) (x : Caused) → x ≡ why_of bs → RightlyReasoned bs (reasoned_by x)
 why_so bs x e = subst (λ (y : Caused). RightlyReasoned bs (reasoned_by y)) (sym e) (why_right bs)
+
+-- each answer of the code
+module _ (bs : List ℕ) where
+  module _ (k : ℕ) where
+    pub told_refuted : (i : ℕ) → (broken i, no_sets) ≡ known_of bs k → RightlyTold bs k (known.refuted i)
+    told_refuted i e = known_so bs k (broken i, no_sets) e
+
+    pub told_halted : (i : ℕ) → (halted i, no_sets) ≡ known_of bs k → RightlyTold bs k (known.not_judged i)
+    told_halted i e = known_so bs k (halted i, no_sets) e
+
+    pub told_sets : (cs : List ℕ) → (sets, cs) ≡ known_of bs k → RightlyTold bs k (known.known (sets_of record { alive = true; codes = cs }))
+    told_sets cs e = known_so bs k (sets, cs) e
+
+  pub reasoned_fitting : (n : ℕ) → fitting n ≡ why_of bs → RightlyReasoned bs (known.fitting n)
+  reasoned_fitting n e = why_so bs (fitting n) e
+
+  pub reasoned_unjudged : (i n : ℕ) → unjudged i n ≡ why_of bs → RightlyReasoned bs (known.unjudged i n)
+  reasoned_unjudged i n e = why_so bs (unjudged i n) e
+
+  pub reasoned_cause : (w : Cause) → caused_as (Ok w) ≡ why_of bs → RightlyReasoned bs (reasoned_by (caused_as (Ok w)))
+  reasoned_cause w e = why_so bs (caused_as (Ok w)) e
+
+pub ruleset telling = (told_refuted, told_halted, told_sets)
+
+pub ruleset reasoning = (reasoned_fitting, reasoned_unjudged, reasoned_cause)

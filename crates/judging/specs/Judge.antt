@@ -1,10 +1,11 @@
 -- The judge by its own steps, what is known after so many exchanges, and why a recording is refuted. `proofs/Theorem.antt` shows that
 -- these are the answers that the statements of `recording` call for; a reader of those need not read this.
-use Rattle.std.specs.Prelude.{ℕ, ◌+◌, ◌<◌, Bool, true, false, ◌≡◌, List, [], ltb, length, get_or, take, drop, replicate}
+use Rattle.std.specs.Prelude.{ℕ, ◌+◌, ◌<◌, Bool, true, ◌≡◌, List, [], Result, Ok, Err, ltb, length, get_or, take, drop, replicate}
 use Rattle.base.specs.Test.{pick}
 use Rattle.state.specs.Field.{field_count}
 use Rattle.knowledge.specs.declared.Knowledge.{Knowledge}
 use Rattle.knowledge.specs.Knowledge.{start, sets_of}
+use Rattle.recording.specs.declared.Refusal.{Refusal}
 use Rattle.recording.specs.Form.{Exchange, whole, exchanges_in, Recording, J, recorded, recording_of, refusal_number}
 use Rattle.recording.specs.Replay.{fits, refuted, not_judged, before_asked}
 use Rattle.recording.specs.Statement as statement
@@ -18,17 +19,16 @@ use Rattle.judging.specs.declared.Judgement.{Judgement}
 use Rattle.judging.specs.declared.Judgement.TheVariants as judgement
 use Rattle.judging.specs.declared.Told.{Told}
 use Rattle.judging.specs.declared.Told.TheVariants as told
-use Rattle.judging.specs.declared.Findings.{Findings}
 use Rattle.judging.specs.declared.Progress.{Progress}
 use Rattle.judging.specs.declared.Cause.{Cause}
 use Rattle.judging.specs.declared.Cause.TheVariants as cause
 
 -- the code's answer as documents 01 and 02 have it: fits N, refuted at I of N, not judged at I (of N), refused Jn
-abbrev pub judgement_as : Judgement → statement.Judgement
-judgement_as (judgement.Fits n) = judged (fits n)
-judgement_as (judgement.Refuted i n) = judged (refuted i n)
-judgement_as (judgement.NotJudged i n) = judged (not_judged i n)
-judgement_as (judgement.Refused k) = refused (refusal_number k)
+abbrev pub judgement_as : Result Judgement Refusal → statement.Judgement
+judgement_as (Ok (judgement.Fits n)) = judged (fits n)
+judgement_as (Ok (judgement.Refuted i n)) = judged (refuted i n)
+judgement_as (Ok (judgement.NotJudged i n)) = judged (not_judged i n)
+judgement_as (Err k) = refused (refusal_number k)
 
 abbrev pub living : Knowledge → Bool
 living k = k.alive
@@ -54,12 +54,6 @@ pub data Telling : Type 0 where
   halted : ℕ → Telling
   sets : Telling
 
-abbrev pub telling_as : Told → Telling
-telling_as (told.Refused k) = unread (refusal_number k)
-telling_as (told.Refuted i) = broken i
-telling_as (told.NotJudged i) = halted i
-telling_as told.Sets = sets
-
 -- beside anything but sets no field's set has a number
 abbrev pub no_sets : List ℕ
 no_sets = replicate field_count 0
@@ -81,8 +75,11 @@ known_for k (recorded a c es) = known_after a c (take k es)
 unfoldable pub known_of : List ℕ → ℕ → Telling × List ℕ
 known_of bs k = known_for k (recording_of bs)
 
-abbrev pub known_as : Findings → Telling × List ℕ
-known_as x = (telling_as x.told, x.codes)
+abbrev pub known_as : Result Told Refusal → Telling × List ℕ
+known_as (Ok (told.Sets cs)) = (sets, cs)
+known_as (Ok (told.Refuted i)) = (broken i, no_sets)
+known_as (Ok (told.NotJudged i)) = (halted i, no_sets)
+known_as (Err k) = (unread (refusal_number k), no_sets)
 
 -- as the statement has it
 abbrev pub told_by : Telling × List ℕ → known.Told
@@ -98,11 +95,11 @@ pub data Caused : Type 0 where
   unjudged : ℕ → ℕ → Caused
   because : ℕ → ℕ → Reason → Caused
 
-abbrev pub caused_as : Cause → Caused
-caused_as (cause.Refused k) = unexplained (refusal_number k)
-caused_as (cause.Fits n) = fitting n
-caused_as (cause.NotJudged i n) = unjudged i n
-caused_as (cause.Refuted i n why) = because i n why
+abbrev pub caused_as : Result Cause Refusal → Caused
+caused_as (Ok (cause.Fits n)) = fitting n
+caused_as (Ok (cause.NotJudged i n)) = unjudged i n
+caused_as (Ok (cause.Refuted i n why)) = because i n why
+caused_as (Err k) = unexplained (refusal_number k)
 
 -- p of the m that are judged pass, of n in all: the next one refutes, by what is known after those
 abbrev pub why_by : ℕ → ℕ → List Exchange → ℕ → ℕ → ℕ → Caused
@@ -124,21 +121,36 @@ reasoned_by (fitting n) = known.fitting n
 reasoned_by (unjudged i n) = known.unjudged i n
 reasoned_by (because i n why) = known.because i n (reason_as why)
 
--- ---- the loop over the exchanges: how many pass of the first m that are judged, and what is known then, which is dead where one does not;
--- the next one starts at the place
-pub record Followed (s : List ℕ) (a c m : ℕ) (p : Progress) : Type 0 where
+-- ---- the loop over the exchanges
+
+-- how many passed
+abbrev pub passed_in : Result Progress ℕ → ℕ
+passed_in (Ok p) = p.passed
+passed_in (Err n) = n
+
+-- of the exchanges held, es are judged: all of them pass, with what is known then, and the next one starts at the place; or one does not
+abbrev pub Reached : List ℕ → ℕ → ℕ → List Exchange → List Exchange → Result Progress ℕ → Type 0
+Reached s a c held es (Ok p) =
+    (p.passed ≡ length es) × (p.known ≡ learnt (exchange_learnt a c) (start a c) es) × (exchanges_in (length s) (drop p.at s) ≡ whole (drop p.passed held))
+Reached s a c held es (Err n) = n < length es
+
+-- of the first m
+pub record Followed (s : List ℕ) (a c m : ℕ) (r : Result Progress ℕ) : Type 0 where
   pub held : List Exchange
   pub same : recording_of s ≡ recorded a c held
-  pub count : p.passed ≡ passed (exchange_learnt a c) living (start a c) (judgeable a (take m held))
-  pub all : p.known.alive ≡ true → (p.passed ≡ length (judgeable a (take m held))) × (p.known ≡ learnt (exchange_learnt a c) (start a c) (judgeable a (take m held)))
-  pub fewer : p.known.alive ≡ false → p.passed < length (judgeable a (take m held))
-  pub few : p.passed < length s
-  pub rest : exchanges_in (length s) (drop p.at s) ≡ whole (drop p.passed held)
+  pub count : passed_in r ≡ passed (exchange_learnt a c) living (start a c) (judgeable a (take m held))
+  pub few : passed_in r < length s
+  pub reached : Reached s a c held (judgeable a (take m held)) r
 
-abbrev pub WellFormed : List ℕ → ℕ → ℕ → Type 0
-WellFormed s a c = (es : List Exchange) × (recording_of s ≡ recorded a c es)
+pub record WellFormed (s : List ℕ) (a c : ℕ) : Type 0 where
+  pub held : List Exchange
+  pub same : recording_of s ≡ recorded a c held
 
 -- of n exchanges p pass, and not all that are judged
-abbrev pub Breaks : List ℕ → ℕ → ℕ → ℕ → ℕ → Type 0
-Breaks s a c n p =
-    (es : List Exchange) × (recording_of s ≡ recorded a c es) × (length es ≡ n) × (passed (exchange_learnt a c) living (start a c) (judgeable a es) ≡ p) × (p < length (judgeable a es)) × (p < n)
+pub record Breaks (s : List ℕ) (a c n p : ℕ) : Type 0 where
+  pub held : List Exchange
+  pub same : recording_of s ≡ recorded a c held
+  pub counted : length held ≡ n
+  pub passing : passed (exchange_learnt a c) living (start a c) (judgeable a held) ≡ p
+  pub fewer : p < length (judgeable a held)
+  pub inside : p < n

@@ -1,30 +1,19 @@
-// The controller over a record that the panel board keeps in place: lent for the length of a call.
+// The controller over what the panel board keeps in place: lent for the length of a call.
 #![tactic(auto)]
 
 ghost use Rattle.std.specs.Prelude.{◌≡◌};
-ghost use Rattle.banked.specs.Banked.{banked_of};
-ghost use Rattle.controller.specs.Call.{outcome_as, call_of};
+ghost use Rattle.controller.specs.Call.{outcome_as};
 ghost use Rattle.state.specs.Event.{after};
 
-use banked::Banked;
-use controller::{Answer, Called};
+use controller::{Answer, Called, Held};
 use frame::Kind;
 use state::{Event, Record};
 
-// The by-value call; the record that it returns is stored back.
-pub fn call(kind: Kind, kept: &mut Record, request: &[u8], out: &mut [u8]) -> Answer
-    ensures { outcome_as result kept.new out.new ≡ call_of kind kept.old request.now out.old }
+// The by-value call; what it returns is stored back.
+pub fn call<H: Held>(kind: Kind, kept: &mut H, request: &[u8], out: &mut [u8]) -> Answer
+    ensures { outcome_as result kept.new out.new ≡ H.called kind kept.old request.now out.old }
 {
     let called = controller::call(kind, *kept, request, out);
-    *kept = called.after;
-    called.answer
-}
-
-// The same for a record with a bank beside it.
-pub fn banked_call(kind: Kind, kept: &mut Banked, request: &[u8], out: &mut [u8]) -> Answer
-    ensures { outcome_as result kept.new out.new ≡ banked_of kind kept.old request.now out.old }
-{
-    let called = banked::call(kind, *kept, request, out);
     *kept = called.after;
     called.answer
 }
@@ -33,33 +22,21 @@ pub fn banked_call(kind: Kind, kept: &mut Banked, request: &[u8], out: &mut [u8]
 pub fn event(kept: &mut Record, event: Event)
     ensures { kept.new ≡ after event kept.old }
 {
-    let after = kept.after(event);
-    *kept = after;
+    *kept = kept.after(event);
 }
 
-// Keeps a record in place for the length of a call, and lends it to that: the by-value call again.
-pub fn lend_to_call(kind: Kind, mut held: Record, request: &[u8], out: &mut [u8]) -> Called
-    ensures { outcome_as result.answer result.after out.new ≡ call_of kind held request.now out.old }
+// Keeps what is held in place for the length of a call, and lends it to that: the by-value call again.
+pub fn lend_to_call<H: Held>(
+    kind: Kind,
+    mut held: H,
+    request: &[u8],
+    out: &mut [u8],
+) -> Called<Answer, H>
+    ensures { outcome_as result.answer result.after out.new ≡ H.called kind held request.now out.old }
 {
     let answer = call(kind, &mut held, request, out);
     Called {
-        answer: answer,
-        after: held,
-    }
-}
-
-// The same for a record with a bank beside it.
-pub fn lend_to_banked_call(
-    kind: Kind,
-    mut held: Banked,
-    request: &[u8],
-    out: &mut [u8],
-) -> banked::Called
-    ensures { outcome_as result.answer result.after out.new ≡ banked_of kind held request.now out.old }
-{
-    let answer = banked_call(kind, &mut held, request, out);
-    banked::Called {
-        answer: answer,
+        answer,
         after: held,
     }
 }

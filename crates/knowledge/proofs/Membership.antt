@@ -3,7 +3,7 @@
 use Prim.Native.Nat.{ℕ, ◌-◌, ◌/◌, ◌%◌, ◌^◌, ◌≤◌, ◌<◌}
 use mathlib.Core.Bool.{Bool, true, false, not}
 use mathlib.Core.Path.{◌≡◌, refl, sym, ap, ◌∙◌}
-use mathlib.Core.List.{List, map}
+use mathlib.Core.List.{map}
 use native.Mathlib.Omega.{arith}
 use lib.Dec.{eqb}
 use lib.ListN.{get_or}
@@ -15,7 +15,7 @@ use Rattle.state.specs.Parameter.{range, range_at}
 use Rattle.state.specs.Field.{Field, phase, recipe, alarms, value, level, position, field_at, field_count, field_range, scalar_fields, scalar_count, Held}
 use Rattle.state.specs.Valid.{within}
 use Rattle.state.proofs.Fields.{field_at_lem, scalar_at, by_list}
-use Rattle.knowledge.specs.Sets.{Kind, several, single, alarmed, kind_of, only, in_set, has}
+use Rattle.knowledge.specs.Sets.{Kind, several, single, alarmed, kind_of, any_number, in_set, has}
 use Rattle.knowledge.specs.Knowledge.{may_hold}
 use Rattle.knowledge.proofs.Bits.{bit_shifted}
 use Rattle.knowledge.proofs.Codes.{small}
@@ -27,15 +27,9 @@ may_hold-field f held c n = simp (lt-ltb _ _ held, field_at_lem f)
 
 -- ---- the range of the field at a position
 
--- the tables of those of all fields but the parameters'
-abbrev lows : List ℕ
-lows = map (λ (f : Field). (field_range f).low) scalar_fields
-
-abbrev highs : List ℕ
-highs = map (λ (f : Field). (field_range f).high) scalar_fields
-
+-- the table of those of all fields but the parameters'
 abbrev table_range : ℕ → Range
-table_range p = range (get_or lows p 0) (get_or highs p 0)
+table_range p = get_or (map field_range scalar_fields) p (range 0 0)
 
 module _ (p : ℕ) where
   pub range_scalar : p < scalar_count → table_range p ≡ field_range (field_at p)
@@ -101,11 +95,14 @@ module _ (p c n : ℕ) where
         pub hold_mask : mask ≡ true → eqb (c / 2 ^ n % 2) 1 ≡ may_hold p c n
         hold_mask m = hold_in (eqb (c / 2 ^ n % 2) 1) (bit_shifted n c ∙ simp m)
 
-        pub hold_number : mask ≡ false → only c n ≡ may_hold p c n
-        hold_number m = hold_in (only c n) (simp m)
+        pub hold_any : mask ≡ false → c ≡ any_number → eqb c any_number ≡ may_hold p c n
+        hold_any m e = hold_in (eqb c any_number) (simp (m, eq-eqb _ _ e))
+
+        pub hold_number : mask ≡ false → (c ≡ any_number → ⊥) → eqb c n ≡ may_hold p c n
+        hold_number m e = hold_in (eqb c n) (simp (m, ne_eqb _ _ e))
 
 pub ruleset ranging = (range_scalar, range-value, range-level)
 
 pub ruleset masking = (kind_scalar, kind-parameter)
 
-pub ruleset holding = (hold_beyond, hold_alarms, hold_outside, hold_limit, hold_mask, hold_number)
+pub ruleset holding = (hold_beyond, hold_alarms, hold_outside, hold_limit, hold_mask, hold_any, hold_number)

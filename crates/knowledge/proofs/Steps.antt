@@ -6,11 +6,11 @@ use mathlib.Core.List.{List, [], ◌∷◌, ◌++◌, map, map-append, append_as
 use native.Mathlib.Numerals.{add-one}
 use native.Mathlib.Omega.{arith}
 use lib.Dec.{eqb}
-use lib.ListN.{get_or-eq_default, length, get_or, set, take, drop, replicate, length-append, drop_of_length-le}
+use lib.ListN.{get_or-eq_default, length, get_or, set, take, drop, replicate, length-append, length-take}
 use lib.Seq.{set_out, set_at}
 use lib.Bits.{bit_and}
 use borrow.Author.Tests.{eq-eqb, ne_eqb, le-leb, lt-leb, lt-ltb, le-ltb, not-true, not-false}
-use Rattle.base.proofs.Lists.{copy_again, copy_done}
+use Rattle.base.specs.Lists.{over}
 use Rattle.base.proofs.Tests.{between_yes, between_no}
 use Rattle.state.specs.declared.Range.{Range}
 use Rattle.state.specs.Parameter.{parameter_count}
@@ -146,9 +146,9 @@ module _ (k s : Knowledge) (c n : ℕ) (known : c ≡ code_at (position alarms) 
   unfolding settled
   settle_own d i j e = e ∙ simp (← known, ← inside, not-false b i, j)
 
-pub reset-stored : (k s : Knowledge) (c d : ℕ) → c ≡ code_at (position alarms) k → d ≡ reset_code c → s ≡ recoded (position alarms) d k → s ≡ alarms_left k
+pub reset_stored : (k s : Knowledge) (c d : ℕ) → c ≡ code_at (position alarms) k → d ≡ reset_code c → s ≡ recoded (position alarms) d k → s ≡ alarms_left k
 unfolding alarms_left
-reset-stored k s c d known e f = f ∙ simp (e, known)
+reset_stored k s c d known e f = f ∙ simp (e, known)
 
 -- ---- a flag, and a value that becomes n
 module _ (n held flag : ℕ) where
@@ -216,40 +216,23 @@ pub lent_short : (cs : List ℕ) → length cs < field_count → record { alive 
 unfolding lent_in
 lent_short cs h = simp (lt-leb _ _ h)
 
-pub lent_again : (cs own₀ own : List ℕ) (i : ℕ) → i < field_count → field_count ≤ length cs → length own₀ ≡ field_count → own ≡ take i cs ++ drop i own₀
-    → set own i (get_or cs i 0) ≡ take (i + 1) cs ++ drop (i + 1) own₀
-lent_again cs own₀ own i h k l e = copy_again cs own₀ own i (omega arith) (omega arith) e
-
--- the copy covers all that there was
-pub lent_all : (cs own₀ own : List ℕ) (i : ℕ) → field_count ≤ length cs → length own₀ ≡ field_count → i ≤ field_count → field_count ≤ i
-    → own ≡ take i cs ++ drop i own₀ → record { alive = true; codes = own } ≡ lent_in cs
+pub lent_all : (cs : List ℕ) → field_count ≤ length cs → lent_in cs ≡ record { alive = true; codes = take field_count cs }
 unfolding lent_in
-lent_all cs own₀ own i h l low high e =
-    let n : i ≡ field_count = omega arith in
-    let m : length own₀ ≤ field_count = omega arith in
-    let z : own ≡ take field_count cs =
-    e ∙ (ap (λ (j : ℕ). take j cs ++ drop j own₀) n
-    ∙ (ap (λ (ys : List ℕ). take field_count cs ++ ys) (drop_of_length-le own₀ m) ∙ append-nil (take field_count cs))) in
-    ap (λ (ys : List ℕ). record { alive = true; codes = ys }) z ∙ simp (le-leb _ _ h)
+lent_all cs h = simp (le-leb _ _ h)
 
 pub laid-short : (cs o : List ℕ) → length o < field_count → (false, o) ≡ laid_in cs o
 unfolding laid_in
 laid-short cs o h = simp (lt-leb _ _ h)
 
-pub laid_again : (cs o d : List ℕ) (i : ℕ) → i < field_count → length cs ≡ field_count → field_count ≤ length o → d ≡ take i cs ++ drop i o
-    → set d i (get_or cs i 0) ≡ take (i + 1) cs ++ drop (i + 1) o
-laid_again cs o d i h l k e = copy_again cs o d i (omega arith) (omega arith) e
+pub laid_all : (cs o : List ℕ) → field_count ≤ length o → length cs ≡ field_count → laid_in cs o ≡ (true, cs ++ drop field_count o)
+unfolding laid_in over
+laid_all cs o h l = simp (le-leb _ _ h) (ap (λ (n : ℕ). (true, cs ++ drop n o)) l)
 
-pub laid_all : (cs o d : List ℕ) (i : ℕ) → field_count ≤ length o → length cs ≡ field_count → i ≤ field_count → field_count ≤ i
-    → d ≡ take i cs ++ drop i o → (true, d) ≡ laid_in cs o
-unfolding laid_in
-laid_all cs o d i h l low high e = ap (λ (ys : List ℕ). (true, ys)) (copy_done cs o d i (omega arith) (omega arith) e) ∙ simp (le-leb _ _ h)
+pub ruleset lending = (lent_short, lent_all)
 
-pub ruleset lending = (lent_short, lent_again, lent_all)
+pub ruleset laying = (laid-short, laid_all, length-take)
 
-pub ruleset laying = (laid-short, laid_again, laid_all)
-
-pub ruleset beyond = (code_beyond, put_beyond)
+pub ruleset beginning = (begun_more, begun_all)
 
 pub ruleset restricting = (restrict_none, restrict_some)
 
@@ -257,7 +240,7 @@ pub ruleset telling = (tell_outside, tell_other, tell_any, tell_same)
 
 pub ruleset advancing = (advance_any, advance_more, advance_round)
 
-pub ruleset may-be = (may_none_such, may_none, may_just, may_lasting, may_any)
+pub ruleset may_be = (may_none_such, may_none, may_just, may_lasting, may_any)
 
 pub ruleset resetting = (reset-none, reset_just, reset-lasting, reset_any)
 

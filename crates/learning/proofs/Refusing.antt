@@ -1,5 +1,5 @@
 -- One law for each return of the functions that learn from a refusal, and from none. Assumes nothing.
-use Prim.Native.Nat.{ℕ, ◌+◌, ◌-◌, ◌≤◌}
+use Prim.Native.Nat.{ℕ, ◌+◌, ◌-◌, ◌≤◌, min}
 use mathlib.Core.Bool.{Bool, true, false, not, ◌||◌, or-true}
 use mathlib.Core.Path.{◌≡◌, refl, sym, ap, ◌∙◌}
 use mathlib.Core.Logic.{◌⊎◌, inl, inr}
@@ -9,16 +9,16 @@ use lib.Dec.{eqb, ltb}
 use lib.ListN.{length}
 use borrow.Author.Tests.{eq-eqb, ne_eqb, le-ltb}
 use Rattle.base.specs.Test.{pick}
-use Rattle.state.specs.Parameter.{parameter_count}
-use Rattle.state.specs.Field.{phase, keypad, alarms, value, level, position, field_range, on, flag_number}
+use Rattle.state.specs.Field.{phase, keypad, alarms, level, position, field_range, on, flag_number}
 use Rattle.command.specs.declared.Guards.{Guards}
+use Rattle.command.specs.declared.LevelGuard.{LevelGuard}
+use Rattle.std.specs.Prelude.{Some}
 use Rattle.command.specs.declared.Phases.{Phases}
-use Rattle.command.specs.declared.Phases.TheVariants.{Any, IdleOrDone, SetOrStopped, Running, SetStoppedOrDone}
-use Rattle.command.specs.Request.{Guard, keypad_guard, level_guard, alarm_guard, keypad_guards, level_guards, phase_guards, alarm_guards, guards_as}
+use Rattle.command.specs.declared.Phases.TheVariants.{IdleOrDone, SetOrStopped, Running, SetStoppedOrDone}
+use Rattle.command.specs.Request.{Guard, keypad_guard, alarm_guard, keypad_guards, level_guards, phase_guards, alarm_guards, guards_as}
 use Rattle.knowledge.specs.declared.Knowledge.{Knowledge}
 use Rattle.knowledge.specs.Sets.{some_mask, mask_from, mask_in, any, alone}
 use Rattle.knowledge.specs.Knowledge.{dead, restricted, passing}
-use Rattle.showing.specs.Shown.{offset_of}
 use Rattle.showing.proofs.Places.{restrict_placed}
 use Rattle.learning.specs.Learn.{let_through, allowed_levels, passed, refused_by}
 
@@ -49,6 +49,8 @@ module _ (a : ℕ) (above : Bool) where
         reached : (n : ℕ) → n ≤ (field_range (level 0)).high → ltb a n ≡ false
         reached n l = le-ltb a n (omega arith)
 
+pub ruleset allowing = (allowed_above, allowed_0, allowed_1, allowed_2, allowed_all)
+
 flag_not : (b : Bool) → flag_number b + flag_number (not b) ≡ 1
 flag_not true = refl
 flag_not false = refl
@@ -58,54 +60,42 @@ unfolding mask_from
 others p = omega (arith, flag_not (p 0), flag_not (p 1), flag_not (p 2), flag_not (p 3))
 
 -- ---- a phase is needed, or not
-by_phases : (p : Phases) (gs : List Guard) (n : ℕ) (k : Knowledge) → let m : ℕ = let_through (phase_guards p) in
-    (passed (phase_guards p) k ≡ pick (eqb m 0) k (restricted (position phase) m k))
-    × (refused_by n (phase_guards p ++ gs) k ≡ pick (eqb m 0) (refused_by n gs k) (pick (eqb n 5) (restricted (position phase) (any phase - m) k) (refused_by n gs (restricted (position phase) m k))))
-unfolding passed refused_by mask_from
-by_phases Any gs n k = (refl, refl)
-by_phases IdleOrDone gs n k = (refl, refl)
-by_phases SetOrStopped gs n k = (refl, refl)
-by_phases Running gs n k = (refl, refl)
-by_phases SetStoppedOrDone gs n k = (refl, refl)
+module _ (p : Phases) (m : ℕ) (e : m ≡ let_through (phase_guards (Some p))) (k : Knowledge) where
+  by_phase : (gs : List Guard) (n : ℕ)
+      → (passed (phase_guards (Some p)) k ≡ restricted (position phase) (let_through (phase_guards (Some p))) k)
+      × (refused_by n (phase_guards (Some p) ++ gs) k
+      ≡ pick (eqb n 5) (restricted (position phase) (any phase - let_through (phase_guards (Some p))) k) (refused_by n gs (restricted (position phase) (let_through (phase_guards (Some p))) k)))
+  unfolding passed refused_by mask_from
+  by_phase gs n = go p
+    where
+      go : (q : Phases)
+          → (passed (phase_guards (Some q)) k ≡ restricted (position phase) (let_through (phase_guards (Some q))) k)
+          × (refused_by n (phase_guards (Some q) ++ gs) k
+          ≡ pick (eqb n 5) (restricted (position phase) (any phase - let_through (phase_guards (Some q))) k) (refused_by n gs (restricted (position phase) (let_through (phase_guards (Some q))) k)))
+      go IdleOrDone = (refl, refl)
+      go SetOrStopped = (refl, refl)
+      go Running = (refl, refl)
+      go SetStoppedOrDone = (refl, refl)
 
-module _ (p : Phases) (k s : Knowledge) (m : ℕ) (e : m ≡ let_through (phase_guards p)) where
-  passed_so : s ≡ pick (eqb m 0) k (restricted (position phase) m k) → s ≡ passed (phase_guards p) k
-  passed_so h = h ∙ (ap (λ (x : ℕ). pick (eqb x 0) k (restricted (position phase) x k)) e ∙ sym (by_phases p [] 0 k).0)
-
-  pub any_passed : m ≡ 0 → s ≡ k → s ≡ passed (phase_guards p) k
-  any_passed z h = passed_so (h ∙ simp (eq-eqb m 0 z))
-
-  pub some_passed : (m ≡ 0 → ⊥) → s ≡ restricted (position phase) m k → s ≡ passed (phase_guards p) k
-  some_passed z h = passed_so (h ∙ simp (ne_eqb m 0 z))
+  pub some_passed : passed (phase_guards (Some p)) k ≡ restricted (position phase) m k
+  some_passed = (by_phase [] 0).0 ∙ simp e
 
   module _ (gs : List Guard) (n : ℕ) where
-    met_so : s ≡ pick (eqb m 0) (refused_by n gs k) (pick (eqb n 5) (restricted (position phase) (any phase - m) k) (refused_by n gs (restricted (position phase) m k)))
-        → s ≡ refused_by n (phase_guards p ++ gs) k
-    met_so h =
-        h ∙ (ap (λ (x : ℕ). pick (eqb x 0) (refused_by n gs k) (pick (eqb n 5) (restricted (position phase) (any phase - x) k) (refused_by n gs (restricted (position phase) x k)))) e
-        ∙ sym (by_phases p gs n k).1)
+    pub some_met : n ≡ 5 → refused_by n (phase_guards (Some p) ++ gs) k ≡ restricted (position phase) (any phase - m) k
+    some_met q = (by_phase gs n).1 ∙ simp (eq-eqb n 5 q, e)
 
-    pub any_met : m ≡ 0 → s ≡ refused_by n gs k → s ≡ refused_by n (phase_guards p ++ gs) k
-    any_met z h = met_so (h ∙ simp (eq-eqb m 0 z))
+    pub none_met : (n ≡ 5 → ⊥) → refused_by n (phase_guards (Some p) ++ gs) k ≡ refused_by n gs (restricted (position phase) m k)
+    none_met q = (by_phase gs n).1 ∙ simp (ne_eqb n 5 q, e)
 
-    pub some_met : (m ≡ 0 → ⊥) → n ≡ 5 → s ≡ restricted (position phase) (any phase - m) k → s ≡ refused_by n (phase_guards p ++ gs) k
-    some_met z q h = met_so (h ∙ simp (ne_eqb m 0 z, eq-eqb n 5 q))
+pub any_passed : (k : Knowledge) → passed [] k ≡ k
+unfolding passed
+any_passed k = refl
 
-    pub none_met : (m ≡ 0 → ⊥) → (n ≡ 5 → ⊥) → (t : Knowledge) → t ≡ restricted (position phase) m k → s ≡ refused_by n gs t
-        → s ≡ refused_by n (phase_guards p ++ gs) k
-    none_met z q t f h = met_so (h ∙ (ap (refused_by n gs) f ∙ simp (ne_eqb m 0 z, ne_eqb n 5 q)))
+pub ruleset phase_passing = (any_passed, some_passed)
 
-pub ruleset phase-passing = (any_passed, some_passed)
-
-pub ruleset phase-meeting = (any_met, some_met, none_met)
+pub ruleset phase_meeting = (some_met, none_met)
 
 -- ---- one guard, if it is tested
-pub if_tested : (b : Bool) (k s t : Knowledge) → b ≡ true → s ≡ t → s ≡ pick b t k
-if_tested b k s t h e = simp h e
-
-pub if_untested : (b : Bool) (k s t : Knowledge) → b ≡ false → s ≡ k → s ≡ pick b t k
-if_untested b k s t h e = simp h e
-
 abbrev pass_if : Bool → Guard → Knowledge → Knowledge
 pass_if b g k = pick b (passing g.field (λ n. not (g.refuses n)) k) k
 
@@ -114,30 +104,32 @@ unfolding passed
 passed-if true g k = refl
 passed-if false g k = refl
 
-module _ (g : Guards) (a : ℕ) (k s : Knowledge) where
-  pub level_untested : g.level ≡ false → s ≡ k → s ≡ passed (level_guards a g) k
-  unfolding passed
-  level_untested h e = simp h e
+module _ (l : LevelGuard) (a : ℕ) (k s : Knowledge) (p m : ℕ) (q : p ≡ min (position (level l.place)) (length k.codes)) (w : m ≡ allowed_levels a l.above) where
+  restricted_so : (c i : ℕ) → c ≡ i → s ≡ restricted p c k → s ≡ restricted (position (level l.place)) i k
+  restricted_so c i j f = f ∙ (ap (λ (x : ℕ). restricted x c k) q ∙ (restrict_placed k c (position (level l.place)) ∙ ap (λ (x : ℕ). restricted (position (level l.place)) x k) j))
 
-  module _ (h : g.level ≡ true) (o m : ℕ) (q : o ≡ offset_of g.place) (w : m ≡ allowed_levels a g.above)
-      (full : length k.codes ≡ position (value parameter_count)) where
-    restricted_so : (l i : ℕ) → l ≡ i → s ≡ restricted (position (level 0) + o) l k → s ≡ restricted (position (level g.place)) i k
-    restricted_so l i j f =
-        f ∙ (ap (λ (x : ℕ). restricted (position (level 0) + x) l k) q ∙ (restrict_placed k full l (position (level 0)) g.place (omega arith) ∙ ap (λ (x : ℕ). restricted (position (level g.place)) x k) j))
+  pub level_passed : s ≡ restricted p m k → s ≡ passed (level_guards a (Some l)) k
+  unfolding passed allowed_levels
+  level_passed e = restricted_so m _ w e
 
-    pub level-passed : s ≡ restricted (position (level 0) + o) m k → s ≡ passed (level_guards a g) k
-    unfolding passed allowed_levels
-    level-passed e = simp h (restricted_so m _ w e)
-
-    pub level_met : (n : ℕ) → eqb n 7 ≡ true → s ≡ restricted (position (level 0) + o) (any (level 0) - m) k → s ≡ refused_by n (level_guards a g ++ (phase_guards g.phases ++ alarm_guards g.alarms)) k
+  module _ (gs : List Guard) (n : ℕ) where
+    pub level_met : n ≡ 7 → s ≡ restricted p (any (level 0) - m) k → s ≡ refused_by n (level_guards a (Some l) ++ gs) k
     unfolding refused_by allowed_levels
-    level_met n j e =
-        let z : any (level 0) - m ≡ mask_in (level 0) (λ i. ltb a i || g.above) = omega (arith, others (λ i. ltb a i || g.above)) in
-        simp (h, j) (restricted_so (any (level 0) - m) _ z e)
+    level_met j e =
+        let z : any (level 0) - m ≡ mask_in (level 0) (λ i. ltb a i || l.above) = omega (arith, others (λ i. ltb a i || l.above)) in
+        simp (eq-eqb n 7 j) (restricted_so (any (level 0) - m) _ z e)
+
+    pub level_unmet : (t : Knowledge) → (n ≡ 7 → ⊥) → s ≡ restricted p m k → t ≡ refused_by n gs s → t ≡ refused_by n (level_guards a (Some l) ++ gs) k
+    unfolding refused_by allowed_levels
+    level_unmet t j e f = f ∙ simp (ne_eqb n 7 j) (ap (refused_by n gs) (restricted_so m _ w e))
 
 pub others_fit : (m a : ℕ) (b : Bool) → m ≡ allowed_levels a b → m ≤ any (level 0)
 unfolding allowed_levels
 others_fit m a b e = omega (arith, others (λ i. ltb a i || b))
+
+pub ruleset level_passing = (any_passed, level_passed)
+
+pub ruleset level_meeting = (level_met, level_unmet, others_fit)
 
 -- ---- guards one after the other
 append-passed : (xs ys : List Guard) (k : Knowledge) → passed (xs ++ ys) k ≡ passed ys (passed xs k)
@@ -147,12 +139,13 @@ append-passed (g ∷ gs) ys k = append-passed gs ys (passing g.field (λ n. not 
 
 -- one that is not tested, or has another number
 abbrev Unmet : Bool → ℕ → ℕ → Type 0
-Unmet b n m = ((b ≡ true) × (eqb n m ≡ false)) ⊎ (b ≡ false)
+Unmet b n m = (n ≡ m → ⊥) ⊎ (b ≡ false)
 
 unmet : (b : Bool) (g : Guard) (gs : List Guard) (n : ℕ) (k : Knowledge) → Unmet b n g.refusal
     → refused_by n (pick b (g ∷ []) [] ++ gs) k ≡ refused_by n gs (passed (pick b (g ∷ []) []) k)
 unfolding passed refused_by
-unmet b g gs n k (inl (h, q)) = simp (h, q)
+unmet true g gs n k (inl q) = simp (ne_eqb n g.refusal q)
+unmet false g gs n k (inl q) = refl
 unmet b g gs n k (inr h) = simp h
 
 module _ (g : Guards) (a n : ℕ) (k s : Knowledge) where
@@ -160,32 +153,28 @@ module _ (g : Guards) (a n : ℕ) (k s : Knowledge) where
   phases_left = phase_guards g.phases ++ alarm_guards g.alarms
 
   abbrev levels_left : List Guard
-  levels_left = level_guards a g ++ phases_left
+  levels_left = level_guards a g.level ++ phases_left
 
-  pub all_passed : (t u v : Knowledge) → t ≡ pass_if g.keypad keypad_guard k → u ≡ passed (level_guards a g) t → v ≡ passed (phase_guards g.phases) u
+  pub all_passed : (t u v : Knowledge) → t ≡ pass_if g.keypad keypad_guard k → u ≡ passed (level_guards a g.level) t → v ≡ passed (phase_guards g.phases) u
       → s ≡ pass_if g.alarms alarm_guard v → s ≡ passed (guards_as a g) k
   all_passed t u v e f i h =
       h ∙ (passed-if g.alarms alarm_guard v ∙ (ap (passed (alarm_guards g.alarms)) i ∙ (sym (append-passed (phase_guards g.phases) (alarm_guards g.alarms) u)
-      ∙ (ap (passed phases_left) f ∙ (sym (append-passed (level_guards a g) phases_left t)
+      ∙ (ap (passed phases_left) f ∙ (sym (append-passed (level_guards a g.level) phases_left t)
       ∙ (ap (passed levels_left) (e ∙ passed-if g.keypad keypad_guard k) ∙ sym (append-passed (keypad_guards g.keypad) levels_left k)))))))
 
-  pub keypad_met : g.keypad ≡ true → eqb n 2 ≡ true → s ≡ restricted (position keypad) (alone keypad on) k → s ≡ refused_by n (guards_as a g) k
+  pub keypad_met : g.keypad ≡ true → n ≡ 2 → s ≡ restricted (position keypad) (alone keypad on) k → s ≡ refused_by n (guards_as a g) k
   unfolding refused_by mask_from
-  keypad_met h q e = simp (h, q) e
+  keypad_met h q e = simp (h, eq-eqb n 2 q) e
 
   pub keypad_unmet : (t : Knowledge) → Unmet g.keypad n 2 → t ≡ pass_if g.keypad keypad_guard k → s ≡ refused_by n levels_left t
       → s ≡ refused_by n (guards_as a g) k
   keypad_unmet t h f e = e ∙ (ap (refused_by n levels_left) (f ∙ passed-if g.keypad keypad_guard k) ∙ sym (unmet g.keypad keypad_guard levels_left n k h))
 
-  pub level_unmet : (t : Knowledge) → Unmet g.level n 7 → t ≡ passed (level_guards a g) k → s ≡ refused_by n phases_left t
-      → s ≡ refused_by n levels_left k
-  level_unmet t h f e = e ∙ (ap (refused_by n phases_left) f ∙ sym (unmet g.level (level_guard a g.above g.place) phases_left n k h))
-
 -- NO09 is the last
 module _ (b : Bool) (n : ℕ) (k s : Knowledge) where
-  pub alarms_met : b ≡ true → eqb n 9 ≡ true → s ≡ restricted (position alarms) some_mask k → s ≡ refused_by n (alarm_guards b) k
+  pub alarms_met : b ≡ true → n ≡ 9 → s ≡ restricted (position alarms) some_mask k → s ≡ refused_by n (alarm_guards b) k
   unfolding refused_by
-  alarms_met h q e = simp (h, q) e
+  alarms_met h q e = simp (h, eq-eqb n 9 q) e
 
   pub alarms_unmet : (t : Knowledge) → Unmet b n 9 → t ≡ pass_if b alarm_guard k → s ≡ dead t → s ≡ refused_by n (alarm_guards b) k
   unfolding refused_by

@@ -1,8 +1,6 @@
 -- What an answered request teaches: the refusals that it passed, or the one that it met, what the reply shows, and what changes.
-use Rattle.std.specs.Prelude.{ℕ, Bool, not, List, [], ◌∷◌, eqb}
+use Rattle.std.specs.Prelude.{ℕ, Bool, not, Option, Some, None, List, [], ◌∷◌, eqb}
 use Rattle.base.specs.Test.{pick}
-use Rattle.text.specs.declared.Digits.{Digits}
-use Rattle.text.specs.declared.Digits.TheVariants as digits_read
 use Rattle.state.specs.Field.{changed, value, position}
 use Rattle.command.specs.Commands.{Change, becomes, next_batch, reset_alarms, new_value}
 use Rattle.command.specs.Request.{Asked, refused, asked, Guard, guards_of, level_guard, reply_of, changes_of}
@@ -51,18 +49,18 @@ abbrev pub acceptance_heard : ℕ → Asked → List ℕ → Knowledge → Knowl
 acceptance_heard a (refused m) b k = dead k
 acceptance_heard a (asked c x) b k = shown (reply_of (asked c x)) b (passed (guards_of a (asked c x)) k)
 
-abbrev pub heard_by : Digits → ℕ → Asked → List ℕ → Knowledge → Knowledge
-heard_by (digits_read.Number n) a q b k = refusal_heard a q n k
-heard_by digits_read.Nothing a q b k = acceptance_heard a q b k
+abbrev pub heard_by : Option ℕ → ℕ → Asked → List ℕ → Knowledge → Knowledge
+heard_by (Some n) a q b k = refusal_heard a q n k
+heard_by None a q b k = acceptance_heard a q b k
 
 -- a request and what was replied, before anything changes
 unfoldable pub heard_of : ℕ → Asked → List ℕ → Knowledge → Knowledge
 heard_of a q b k = heard_by (refusal_in b) a q b k
 
 -- ---- the same, and what changes then: nothing at a refusal
-abbrev pub moved_unless : Digits → Asked → Knowledge → Knowledge
-moved_unless (digits_read.Number n) q k = k
-moved_unless digits_read.Nothing q k = moved (changes_of q) k
+abbrev pub moved_unless : Option ℕ → Asked → Knowledge → Knowledge
+moved_unless (Some n) q k = k
+moved_unless None q k = moved (changes_of q) k
 
 unfoldable pub learn_of : ℕ → Asked → List ℕ → Knowledge → Knowledge
 learn_of a q b k = moved_unless (refusal_in b) q (heard_of a q b k)

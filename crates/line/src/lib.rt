@@ -1,4 +1,4 @@
-// The judge's answer as one line.
+// The judge's answer as one line, by text's writers: a Display would need a Write of its own over the lent buffer.
 #![tactic(auto)]
 
 ghost use Rattle.std.specs.Prelude.{◌≡◌, ◌++◌, ◌+◌, ◌≤◌, length};
@@ -8,7 +8,7 @@ ghost use Rattle.judging.specs.Judge.{judgement_as};
 ghost use Rattle.line.specs.Line.{line_written};
 
 use judging::Judgement;
-use recording::number_of;
+use recording::Refusal;
 use text::{put_decimal, put_word};
 
 // Room for any line.
@@ -33,19 +33,20 @@ fn put_last(word: &[u8], n: usize, at: usize, out: &mut [u8]) -> usize
 }
 
 // Writes the line to the start of out, and gives its length; 0 if out is under ROOM bytes, and then nothing is written.
-pub fn write(answer: Judgement, out: &mut [u8]) -> usize
+#[tactic(auto, using(crate::proofs::Laws::writing))]
+pub fn write(answer: Result<Judgement, Refusal>, out: &mut [u8]) -> usize
     ensures { (result, out.new) ≡ line_written (judgement_as answer) out.old }
 {
     if out.len() < ROOM {
         return 0;
     }
     match answer {
-        Judgement::Fits(n) => put_last(b"fits ", n, 0, out),
-        Judgement::Refuted(i, n) => {
+        Ok(Judgement::Fits(n)) => put_last(b"fits ", n, 0, out),
+        Ok(Judgement::Refuted(i, n)) => {
             let behind = put_labelled(b"refuted at ", i, 0, out);
             put_last(b" of ", n, behind, out)
         }
-        Judgement::NotJudged(i, _) => put_last(b"not judged at ", i, 0, out),
-        Judgement::Refused(refusal) => put_last(b"refused J", number_of(refusal) as usize, 0, out),
+        Ok(Judgement::NotJudged(i, _)) => put_last(b"not judged at ", i, 0, out),
+        Err(refusal) => put_last(b"refused J", usize::from(u8::from(refusal)), 0, out),
     }
 }

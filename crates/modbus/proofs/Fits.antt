@@ -1,7 +1,7 @@
 -- What holds of a request by what it asks for: of every silence, exception, read and write. Assumes nothing.
 use Prim.Native.Nat.{ℕ, ◌+◌, ◌/◌, ◌%◌, ◌≤◌, ◌<◌}
 use mathlib.Core.Bool.{Bool, true, false, not, ◌&&◌, ◌||◌}
-use mathlib.Core.Path.{◌≡◌, refl, sym, ap, subst, ◌∙◌}
+use mathlib.Core.Path.{◌≡◌, refl, sym, subst}
 use mathlib.Core.List.{List}
 use native.Mathlib.Omega.{arith}
 use lib.Dec.{eqb, leb}
@@ -13,11 +13,8 @@ use Rattle.state.specs.Parameter.{parameter_count}
 use Rattle.crc.specs.Crc.{crc_right}
 use Rattle.modbus.specs.declared.Silence.{Silence}
 use Rattle.modbus.specs.declared.Silence.TheVariants as silence
-use Rattle.modbus.specs.declared.Exception.{Exception}
-use Rattle.modbus.specs.declared.Asked as heard
-use Rattle.modbus.specs.declared.Asked.TheVariants as told
 use Rattle.modbus.specs.Request.{Asked, M, exception, reads, writes, slave_in, function_in, start_in, count_in, byte_count_in, value_in, register_count, is_read, is_write, read_whole, write_whole, asked_read, asked_write, asked_function, asked_frame, asked_of}
-use Rattle.modbus.specs.Numbers.{silence_number, asked_as}
+use Rattle.modbus.specs.Numbers.{silence_number}
 
 -- silences are counted from 1
 pub silence_low : (w : Silence) → 1 ≤ silence_number w
@@ -128,16 +125,16 @@ module _ (good : Bool) (q : List ℕ) (room : ℕ) where
       function_fits
       (record { held = v; enough = leb-true 256 room e; four = between_low 4 256 (length q) b; small = leb-true (function_in q) 127 f }) w))))))))
 
-  -- by the code's value
-  module _ (a : ℕ) (x : heard.Asked) (e : asked_as x ≡ asked_of good a q room) where
-    told-fits : (y : heard.Asked) → x ≡ y → Fits good q room (asked_as y)
-    told-fits y z = subst (Fits good q room) (sym e ∙ ap asked_as z) (asked-fits a)
+  -- by what is asked for
+  module _ (a : ℕ) where
+    fitted : (y : Asked) → y ≡ asked_of good a q room → Fits good q room y
+    fitted y e = subst (Fits good q room) (sym e) (asked-fits a)
 
-    pub heard-exception : (n : Exception) → x ≡ told.Exception n → Open good q room
-    heard-exception n z = told-fits (told.Exception n) z
+    pub exception_fits : (n : ℕ) → exception n ≡ asked_of good a q room → Open good q room
+    exception_fits n = fitted (exception n)
 
-    pub heard_read : (s n : ℕ) → x ≡ told.Read s n → Reads good q room s n
-    heard_read s n z = told-fits (told.Read s n) z
+    pub reads_fit : (s n : ℕ) → reads s n ≡ asked_of good a q room → Reads good q room s n
+    reads_fit s n = fitted (reads s n)
 
-    pub heard_write : (i v : ℕ) → x ≡ told.Write i v → Writes good q room i
-    heard_write i v z = told-fits (told.Write i v) z
+    pub writes_fit : (i v : ℕ) → writes i v ≡ asked_of good a q room → Writes good q room i
+    writes_fit i v = fitted (writes i v)

@@ -1,4 +1,3 @@
-pub mod Hearing
 pub mod Laying
 pub mod Fits
 pub mod Answering

@@ -16,18 +16,26 @@ use Rattle.state.proofs.Parameters.{place_has_code}
 use Rattle.frame.specs.declared.Kind.{Kind}
 use Rattle.text.specs.Word.{digits}
 use Rattle.controller.proofs.ReadBack.{parameter_shown, AnswersAt, value_read}
-use Rattle.crc.specs.Crc.{crc_bytes, sealed}
+use Rattle.crc.specs.Crc.{crc_bytes, sealed, crc_right}
 use Rattle.crc.proofs.Sealed.{sealed_right}
-use Rattle.modbus.specs.declared.Asked.TheVariants as told
-use Rattle.modbus.specs.Request.{Asked, reads, writes, register_count, asked_frame, asked_of}
+use Rattle.modbus.specs.Request.{Asked, reads, writes, slave_in, function_in, byte_count_in, register_count, asked_read, asked_write, asked_frame, asked_of}
 use Rattle.modbus.specs.Reply.{two_bytes, register_at, registers, shown}
 use Rattle.modbus.specs.Call.{replied, written_of, answered_as, served_by, modbus_of}
 use Rattle.modbus.specs.Frames.{four_bytes, read_request, write_request}
-use Rattle.modbus.proofs.Hearing.{read_right, write_right, frame_read, frame_write}
 use Rattle.modbus.proofs.Theorems.{Wrote, value_written, keeps_valid}
 
 joined : (n : ℕ) → n ≡ n / 256 * 256 + n % 256
 joined n = sym (div-add-mod' n 256)
+
+-- ---- a frame of 4 to 256 bytes with its check, for this slave
+module _ (a : ℕ) (q : List ℕ) (low : 4 ≤ length q) (high : length q ≤ 256) (check : crc_right q ≡ true) (slave : slave_in q ≡ a) where
+  frame_read : function_in q ≡ 3 → length q ≡ 8 → asked_frame a q ≡ asked_read q
+  unfolding asked_frame
+  frame_read f g = simp (le-leb _ _ low, le-leb _ _ high, check, eq-eqb _ _ slave, f, eq-eqb _ _ g)
+
+  frame_write : function_in q ≡ 16 → length q ≡ 9 + byte_count_in q → asked_frame a q ≡ asked_write q
+  unfolding asked_frame
+  frame_write f g = simp (le-leb _ _ low, le-leb _ _ high, check, eq-eqb _ _ slave, f, eq-eqb _ _ g)
 
 -- ---- what is asked for
 module _ (r : Record) (o : List ℕ) (v : valid r ≡ true) (room : 256 ≤ length o) where
@@ -39,24 +47,24 @@ module _ (r : Record) (o : List ℕ) (v : valid r ≡ true) (room : 256 ≤ leng
   by_frame q = simp (v, le-leb _ _ room)
 
   pub read_heard : (s n : ℕ) → 1 ≤ n → n ≤ 125 → s + n ≤ register_count → asked (read_request (get address r) s n) ≡ reads s n
-  unfolding read_request sealed crc_bytes
+  unfolding read_request sealed crc_bytes asked_read
   read_heard s n h k l =
       let q : List ℕ = read_request r.address s n in
       by_frame q
-      ∙ sym (frame_read r.address q true (omega arith) (omega arith) (sym (sealed_right (r.address ∷ 3 ∷ (two_bytes s ++ two_bytes n)))) refl refl (omega arith)
-      (told.Read s n) refl refl (read_right q s n (joined s) (joined n) h k l))
+      ∙ frame_read r.address q (omega arith) (omega arith) (sealed_right (r.address ∷ 3 ∷ (two_bytes s ++ two_bytes n))) refl refl (omega arith)
+      ∙ simp (← joined s, ← joined n, le-leb _ _ h, le-leb _ _ k, le-leb _ _ l)
 
   pub write_heard : (i m : ℕ) → i < parameter_count → asked (write_request (get address r) i m) ≡ writes i m
-  unfolding write_request sealed crc_bytes
+  unfolding write_request sealed crc_bytes asked_write
   write_heard i m h =
       let q : List ℕ = write_request r.address i m in
       let whole : m / 65536 * 65536 + m % 65536 ≡ m = div-add-mod' m 65536 in
+      let inside : 2 * i + 2 ≤ register_count = omega arith in
+      let even : 2 * i % 2 ≡ 0 = omega arith in
       let half : 2 * i / 2 ≡ i = omega arith in
       by_frame q
-      ∙ sym (frame_write r.address q true (omega arith) (omega arith) (sym (sealed_right (r.address ∷ 16 ∷ (two_bytes (2 * i) ++ (0 ∷ 2 ∷ 4 ∷ four_bytes m))))) refl refl (omega arith)
-      (told.Write (2 * i / 2) (m / 65536 * 65536 + m % 65536)) 4 refl refl refl
-      (write_right q (2 * i) 2 (joined (2 * i)) refl (m / 65536) (m % 65536) refl refl (omega arith) (omega arith) (joined (m / 65536)) (joined (m % 65536))))
-      ∙ ap₂ writes half whole
+      ∙ frame_write r.address q (omega arith) (omega arith) (sealed_right (r.address ∷ 16 ∷ (two_bytes (2 * i) ++ (0 ∷ 2 ∷ 4 ∷ four_bytes m)))) refl refl refl
+      ∙ simp (← joined (2 * i), ← joined (m / 65536), ← joined (m % 65536), le-leb _ _ inside, eq-eqb _ _ even, whole, half)
 
   -- a read "may span any registers of the 64", and is answered with them
   pub every_read : (s n : ℕ) → 1 ≤ n → n ≤ 125 → s + n ≤ register_count

@@ -1,21 +1,25 @@
 // A Modbus RTU slave over the controller's parameters: a request frame in, a reply frame or a named silence out.
 #![tactic(auto)]
 
-ghost use Rattle.std.specs.Prelude.{◌≡◌, [], ◌∷◌, ◌++◌, ◌+◌, ◌*◌, ◌≤◌, ◌<◌, length, take};
+ghost use Rattle.std.specs.Prelude.{Bool, ℕ, List, ◌≡◌, ◌++◌, ◌+◌, ◌*◌, ◌≤◌, ◌<◌, length, take};
 ghost use Rattle.base.specs.Lists.{over};
 ghost use Rattle.command.specs.Request.{refusal_number, effect_as};
-ghost use Rattle.modbus.specs.Numbers.{silence_number, exception_number, asked_as, outcome_as};
+ghost use Rattle.modbus.specs.Numbers.{silence_number, exception_number, told_as, asked_as, outcome_as};
 ghost use Rattle.modbus.specs.Request.{word_at, byte_count_in, function_in, asked_read, asked_write, asked_frame, asked_of};
-ghost use Rattle.modbus.specs.Reply.{register_at, registers, exception_for, laid};
-ghost use Rattle.modbus.specs.Call.{written_of, served_by, modbus_of, banked_modbus_of};
+ghost use Rattle.modbus.specs.Reply.{register_at, registers, refusal, shown, echoed, exception_for, laid};
+ghost use Rattle.modbus.specs.Call.{written_of, holding, served_by, modbus_of, banked_modbus_of, record_outcome, banked_outcome};
+ghost use Rattle.controller.specs.Call.{OutcomeOf};
+ghost use Rattle.state.specs.declared.Record.{Record};
+ghost use Rattle.state.specs.Valid.{valid as record_valid};
+ghost use Rattle.banked.specs.Banked.{valid as banked_valid, with as beside};
 
 use banked::Banked;
-use base::wide;
-use command::{Effect, Refusal};
+use command::{Refusal, Served};
+use controller::Called;
 use state::{PARAMETERS, Record};
 
 // Why a request gets no reply, in the order of the tests.
-#[derive(Clone, Copy)]
+#[derive(Clone, Copy, PartialEq, Eq)]
 pub enum Silence {
     // M1
     InvalidRecord,
@@ -36,23 +40,25 @@ pub enum Silence {
 }
 
 // The n of Mn.
-pub fn number_of(silence: Silence) -> u8
-    ensures { result ≡ silence_number silence }
-{
-    match silence {
-        Silence::InvalidRecord => 1,
-        Silence::ShortReplyBuffer => 2,
-        Silence::FrameLength => 3,
-        Silence::Crc => 4,
-        Silence::OtherSlave => 5,
-        Silence::FunctionRange => 6,
-        Silence::ReadLength => 7,
-        Silence::WriteLength => 8,
+impl From<Silence> for u8 {
+    ghost from_gives = { λ silence n. n ≡ silence_number silence };
+
+    fn from(silence: Silence) -> u8 {
+        match silence {
+            Silence::InvalidRecord => 1,
+            Silence::ShortReplyBuffer => 2,
+            Silence::FrameLength => 3,
+            Silence::Crc => 4,
+            Silence::OtherSlave => 5,
+            Silence::FunctionRange => 6,
+            Silence::ReadLength => 7,
+            Silence::WriteLength => 8,
+        }
     }
 }
 
 // The standard's exceptions that are answered.
-#[derive(Clone, Copy)]
+#[derive(Clone, Copy, PartialEq, Eq)]
 pub enum Exception {
     // 01
     IllegalFunction,
@@ -65,22 +71,34 @@ pub enum Exception {
 }
 
 // The exception's code in a reply.
-fn exception_code(exception: Exception) -> u8
-    ensures { result ≡ exception_number exception }
-{
-    match exception {
-        Exception::IllegalFunction => 1,
-        Exception::IllegalDataAddress => 2,
-        Exception::IllegalDataValue => 3,
-        Exception::SlaveDeviceFailure => 4,
+impl From<Exception> for u8 {
+    ghost from_gives = { λ exception n. n ≡ exception_number exception };
+
+    fn from(exception: Exception) -> u8 {
+        match exception {
+            Exception::IllegalFunction => 1,
+            Exception::IllegalDataAddress => 2,
+            Exception::IllegalDataValue => 3,
+            Exception::SlaveDeviceFailure => 4,
+        }
     }
 }
 
-// What a request asks for.
+// The exception that stands for a refusal of PC.
+impl From<Refusal> for Exception {
+    ghost from_gives = { λ refusal exception. exception_number exception ≡ exception_for (refusal_number refusal) };
+
+    fn from(refusal: Refusal) -> Exception {
+        match refusal {
+            Refusal::Range => Exception::IllegalDataValue,
+            _ => Exception::SlaveDeviceFailure,
+        }
+    }
+}
+
+// What a request that gets a reply asks for.
 #[derive(Clone, Copy)]
 enum Asked {
-    // M1 to M8
-    Silent(Silence),
     Exception(Exception),
     // The first register, and how many.
     Read(usize, usize),
@@ -88,34 +106,8 @@ enum Asked {
     Write(usize, u32),
 }
 
-#[derive(Clone, Copy)]
-pub enum Answer {
-    // M1 to M8
-    Silent(Silence),
-    // The length of the reply frame.
-    Reply(usize),
-}
-
-// The answer, and the effect that the record has still to take.
-#[derive(Clone, Copy)]
-struct Replied {
-    pub answer: Answer,
-    pub effect: Effect,
-}
-
-// The answer, and the record afterwards.
-#[derive(Clone, Copy)]
-pub struct Called {
-    pub answer: Answer,
-    pub after: Record,
-}
-
-// The answer, and the record and the bank afterwards.
-#[derive(Clone, Copy)]
-pub struct BankedCalled {
-    pub answer: Answer,
-    pub after: Banked,
-}
+// The length of the reply frame; or M1 to M8.
+pub type Answer = Result<usize, Silence>;
 
 // The least room for a reply.
 pub const ROOM: usize = 256;
@@ -125,7 +117,8 @@ const SHORTEST: usize = 4;
 
 const LONGEST: usize = 256;
 
-// The functions that are served, and the last number of one.
+// The functions that are served, as the standard numbers them, and the last number of one. No enum: any other function is told back by
+// its number.
 const READ: u8 = 3;
 
 const WRITE: u8 = 16;
@@ -136,130 +129,111 @@ const LAST_FUNCTION: u8 = 127;
 const EXCEPTION: u8 = 128;
 
 // The most registers that a read may ask for.
-const MOST: u32 = 125;
+const MOST: usize = 125;
 
 // Two registers for each parameter.
-const REGISTERS: u32 = 2 * PARAMETERS as u32;
-
-// PC's NO06.
-const OUT_OF_RANGE: u32 = 6;
+const REGISTERS: usize = 2 * PARAMETERS;
 
 // ---- reading a request
 
 // A number of two bytes, the high one first.
-fn word(q: &[u8], at: usize) -> u32
+fn word(q: &[u8], at: usize) -> usize
     requires { at + 2 ≤ length q.now }
     ensures { (result ≡ word_at q.now at) × (result < 65536) }
 {
-    wide(q[at]) * 256 + wide(q[at + 1])
+    usize::from(u16::from_be_bytes([q[at], q[at + 1]]))
 }
 
 // A read of 8 bytes.
+#[tactic(auto, unfolding(crate::specs::Request::asked_read))]
 fn asked_read(q: &[u8]) -> Asked
     requires { length q.now ≡ 8 }
-    ensures { asked_as result ≡ asked_read q.now }
+    ensures { told_as result ≡ asked_read q.now }
 {
     let start = word(q, 2);
     let count = word(q, 4);
-    if count < 1 {
-        return Asked::Exception(Exception::IllegalDataValue);
-    }
-    if MOST < count {
+    if !(1..=MOST).contains(&count) {
         return Asked::Exception(Exception::IllegalDataValue);
     }
     if REGISTERS < start + count {
         return Asked::Exception(Exception::IllegalDataAddress);
     }
-    Asked::Read(start as usize, count as usize)
+    Asked::Read(start, count)
 }
 
 // A write of 9 bytes and its byte count.
+#[tactic(auto, unfolding(crate::specs::Request::asked_write))]
 fn asked_write(q: &[u8]) -> Asked
     requires { length q.now ≡ 9 + byte_count_in q.now }
-    ensures { asked_as result ≡ asked_write q.now }
+    ensures { told_as result ≡ asked_write q.now }
 {
     let start = word(q, 2);
     let count = word(q, 4);
-    if count != 2 {
+    if count != 2 || q[6] != 4 {
         return Asked::Exception(Exception::IllegalDataValue);
     }
-    if q[6] != 4 {
-        return Asked::Exception(Exception::IllegalDataValue);
-    }
-    if REGISTERS < start + count {
+    if REGISTERS < start + count || start % 2 != 0 {
         return Asked::Exception(Exception::IllegalDataAddress);
     }
-    if start % 2 != 0 {
-        return Asked::Exception(Exception::IllegalDataAddress);
-    }
-    Asked::Write((start / 2) as usize, word(q, 7) * 65536 + word(q, 9))
+    Asked::Write(start / 2, u32::from_be_bytes([q[7], q[8], q[9], q[10]]))
 }
 
 // What a frame asks of the slave with this address.
-fn asked_frame(address: u8, q: &[u8]) -> Asked
+#[tactic(auto, unfolding(crate::specs::Request::asked_frame))]
+fn asked_frame(address: u8, q: &[u8]) -> Result<Asked, Silence>
     ensures { asked_as result ≡ asked_frame address q.now }
 {
     let n = q.len();
-    if n < SHORTEST {
-        return Asked::Silent(Silence::FrameLength);
-    }
-    if LONGEST < n {
-        return Asked::Silent(Silence::FrameLength);
+    if !(SHORTEST..=LONGEST).contains(&n) {
+        return Err(Silence::FrameLength);
     }
     if !crc::is_right(q) {
-        return Asked::Silent(Silence::Crc);
+        return Err(Silence::Crc);
     }
     let slave = q[0];
     if slave != address {
-        return Asked::Silent(Silence::OtherSlave);
+        return Err(Silence::OtherSlave);
     }
-    let function = q[1];
-    if LAST_FUNCTION < function {
-        return Asked::Silent(Silence::FunctionRange);
+    match q[1] {
+        function if LAST_FUNCTION < function => Err(Silence::FunctionRange),
+        READ if n != 8 => Err(Silence::ReadLength),
+        READ => Ok(asked_read(q)),
+        WRITE if n < 9 || n != 9 + usize::from(q[6]) => Err(Silence::WriteLength),
+        WRITE => Ok(asked_write(q)),
+        _ => Ok(Asked::Exception(Exception::IllegalFunction)),
     }
-    if function == READ {
-        if n != 8 {
-            return Asked::Silent(Silence::ReadLength);
-        }
-        return asked_read(q);
-    }
-    if function == WRITE {
-        if n < 9 {
-            return Asked::Silent(Silence::WriteLength);
-        }
-        if n as u32 != 9 + wide(q[6]) {
-            return Asked::Silent(Silence::WriteLength);
-        }
-        return asked_write(q);
-    }
-    Asked::Exception(Exception::IllegalFunction)
 }
 
 // What a request asks of the slave with this address; `good` if all that the unit holds is valid; so much reply room is lent.
-fn hear(good: bool, address: u8, request: &[u8], room: usize) -> Asked
+#[tactic(auto, unfolding(crate::specs::Request::asked_of))]
+fn hear(good: bool, address: u8, request: &[u8], room: usize) -> Result<Asked, Silence>
     ensures { asked_as result ≡ asked_of good address request.now room }
 {
     if !good {
-        return Asked::Silent(Silence::InvalidRecord);
+        return Err(Silence::InvalidRecord);
     }
     if room < ROOM {
-        return Asked::Silent(Silence::ShortReplyBuffer);
+        return Err(Silence::ShortReplyBuffer);
     }
     asked_frame(address, request)
 }
 
 // ---- building a reply
 
+// A request that is answered is of so many bytes, and the reply has room: `hear` has tested it, and what follows requires it. The room is
+// no array of ROOM bytes, since what is promised is the whole lent buffer, which would have to be put together from it again.
+
 // The register with a number: the high word of a value, or its low word.
-fn register(values: &[u32], number: usize) -> u32
+fn register(values: &[u32], number: usize) -> u16
     requires { number < 2 * length values.now }
-    ensures { (result ≡ register_at values.now number) × (result < 65536) }
+    ensures { result ≡ register_at values.now number }
 {
     let value = values[number / 2];
     if number % 2 == 0 {
-        return value / 65536;
+        (value / 65536) as u16
+    } else {
+        (value % 65536) as u16
     }
-    value % 65536
 }
 
 // Lays the bytes of count registers from start on behind the first three bytes.
@@ -267,155 +241,170 @@ fn lay_registers(values: &[u32], start: usize, count: usize, out: &mut [u8])
     requires { (start + count ≤ 2 * length values.now) × (2 * count + 3 ≤ length out.old) }
     ensures { out.new ≡ over (take 3 out.old ++ registers values.now start count) out.old }
 {
-    let mut i = 0;
-    while i < count {
-        let shown = register(values, start + i);
-        out[2 * i + 3] = (shown / 256) as u8;
-        out[2 * i + 4] = (shown % 256) as u8;
-        i += 1;
+    for i in 0..count {
+        let at = 2 * i + 3;
+        out[at..at + 2].copy_from_slice(&register(values, start + i).to_be_bytes());
     }
 }
 
-// The three bytes that begin a reply.
-fn begin(slave: u8, function: u8, third: u8, out: &mut [u8])
-    requires { 3 ≤ length out.old }
-    ensures { out.new ≡ over (slave ∷ function ∷ third ∷ []) out.old }
+// Lays a body, and its check behind it.
+fn lay(body: &[u8], out: &mut [u8]) -> usize
+    requires { length body.now + 2 ≤ length out.old }
+    ensures { (result, out.new) ≡ laid body.now out.old }
 {
-    out[0] = slave;
-    out[1] = function;
-    out[2] = third;
+    let n = body.len();
+    out[..n].copy_from_slice(body);
+    crc::seal(n, out).unwrap_or(0)
 }
 
 // The reply of an exception.
-fn refuse(slave: u8, function: u8, exception: Exception, out: &mut [u8]) -> usize
-    requires { (function ≤ 127) × (256 ≤ length out.old) }
-    ensures { (result, out.new) ≡ laid (slave ∷ (function + 128) ∷ exception_number exception ∷ []) out.old }
+fn refuse(q: &[u8], exception: Exception, out: &mut [u8]) -> usize
+    requires { (2 ≤ length q.now) × ((function_in q.now ≤ 127) × (256 ≤ length out.old)) }
+    ensures { (result, out.new) ≡ laid (refusal (exception_number exception) q.now) out.old }
 {
-    begin(slave, function + EXCEPTION, exception_code(exception), out);
-    crc::seal(3, out)
+    lay(&[q[0], q[1] + EXCEPTION, u8::from(exception)], out)
 }
 
 // The reply of a read.
-fn show(
-    values: &[u32],
-    slave: u8,
-    function: u8,
-    start: usize,
-    count: usize,
-    out: &mut [u8],
-) -> usize
-    requires { (start + count ≤ 2 * length values.now) × ((count ≤ 125) × (256 ≤ length out.old)) }
-    ensures { (result, out.new) ≡ laid (slave ∷ function ∷ (2 * count) ∷ registers values.now start count) out.old }
+fn show(values: &[u32], start: usize, count: usize, q: &[u8], out: &mut [u8]) -> usize
+    requires { (start + count ≤ 2 * length values.now) × ((count ≤ 125) × ((2 ≤ length q.now) × (256 ≤ length out.old))) }
+    ensures { (result, out.new) ≡ laid (shown values.now start count q.now) out.old }
 {
-    begin(slave, function, (2 * count) as u8, out);
+    let bytes = 2 * count;
+    out[..3].copy_from_slice(&[q[0], q[1], bytes as u8]);
     lay_registers(values, start, count, out);
-    crc::seal(2 * count + 3, out)
+    crc::seal(bytes + 3, out).unwrap_or(0)
 }
 
 // The reply of a write: slave, function, start and count as they were asked.
 fn echo(q: &[u8], out: &mut [u8]) -> usize
     requires { (6 ≤ length q.now) × (256 ≤ length out.old) }
-    ensures { (result, out.new) ≡ laid (take 6 q.now) out.old }
+    ensures { (result, out.new) ≡ laid (echoed q.now) out.old }
 {
-    let mut i = 0;
-    while i < 6 {
-        out[i] = q[i];
-        i += 1;
-    }
-    crc::seal(6, out)
-}
-
-// The exception that stands for a refusal of PC.
-fn exception_for(refusal: Refusal) -> Exception
-    ensures { exception_number result ≡ exception_for (refusal_number refusal) }
-{
-    if command::number_of(refusal) == OUT_OF_RANGE {
-        return Exception::IllegalDataValue;
-    }
-    Exception::SlaveDeviceFailure
+    lay(&q[..6], out)
 }
 
 // ---- answering
 
 // A write is judged and takes effect as PC does.
-fn write(before: Record, place: usize, value: u32, q: &[u8], out: &mut [u8]) -> Replied
+fn write(before: Record, place: usize, value: u32, q: &[u8], out: &mut [u8]) -> Served<Answer>
     requires { (6 ≤ length q.now) × ((function_in q.now ≤ 127) × (256 ≤ length out.old)) }
     ensures { outcome_as result.answer (effect_as result.effect before) out.new ≡ written_of place value before q.now out.old }
 {
-    let served = command::serve_value(before, place, value);
-    let answer = served.answer;
-    let effect = served.effect;
-    match answer {
-        command::Answer::No(why) => Replied {
-            answer: Answer::Reply(refuse(q[0], q[1], exception_for(why), out)),
-            effect: effect,
+    match command::serve_value(before, place, value) {
+        Ok(writing) => Served {
+            answer: Ok(echo(q, out)),
+            effect: Some(writing),
         },
-        // PC shows nothing, but any answer is told apart.
-        command::Answer::Shows(_) => Replied {
-            answer: Answer::Reply(echo(q, out)),
-            effect: effect,
-        },
-        command::Answer::Ok => Replied {
-            answer: Answer::Reply(echo(q, out)),
-            effect: effect,
+        Err(why) => Served {
+            answer: Ok(refuse(q, Exception::from(why), out)),
+            effect: None,
         },
     }
 }
 
 // Serves a request of a unit that holds this record; `good` if all that it holds is valid.
-fn serve(good: bool, before: Record, request: &[u8], out: &mut [u8]) -> Replied
+fn serve(good: bool, before: Record, request: &[u8], out: &mut [u8]) -> Served<Answer>
     ensures { outcome_as result.answer (effect_as result.effect before) out.new ≡ served_by good before request.now out.old }
 {
-    match hear(good, before.address, request, out.len()) {
-        Asked::Silent(why) => Replied {
-            answer: Answer::Silent(why),
-            effect: Effect::Nothing,
-        },
-        Asked::Exception(exception) => Replied {
-            answer: Answer::Reply(refuse(request[0], request[1], exception, out)),
-            effect: Effect::Nothing,
-        },
-        Asked::Read(start, count) => {
-            let values = before.values;
-            let length = show(&values, request[0], request[1], start, count, out);
-            Replied {
-                answer: Answer::Reply(length),
-                effect: Effect::Nothing,
-            }
-        }
-        Asked::Write(place, value) => write(before, place, value, request, out),
+    let answer = match hear(good, before.address, request, out.len()) {
+        Err(why) => Err(why),
+        Ok(Asked::Exception(exception)) => Ok(refuse(request, exception, out)),
+        Ok(Asked::Read(start, count)) => Ok(show(&before.values, start, count, request, out)),
+        Ok(Asked::Write(place, value)) => return write(before, place, value, request, out),
+    };
+    Served {
+        answer: answer,
+        effect: None,
     }
 }
 
-// One frame that fills the lent request, and one reply buffer. A silence leaves the record and the buffer as they were.
-pub fn call(before: Record, request: &[u8], out: &mut [u8]) -> Called
-    ensures { outcome_as result.answer result.after out.new ≡ modbus_of before request.now out.old }
-{
-    let replied = serve(before.valid(), before, request, out);
-    let answer = replied.answer;
-    let effect = replied.effect;
-    let after = command::carry_out(before, effect);
-    Called {
-        answer: answer,
-        after: after,
+// What a slave holds: a record, alone or with a bank beside it.
+pub trait Slave: Copy {
+    ghost all_valid: { Self → Bool };
+
+    ghost record_of: { Self → Record };
+
+    ghost with: { Self → Record → Self };
+
+    // What a call comes to, by the paper.
+    ghost outcome: { Self → List ℕ → List ℕ → OutcomeOf Self };
+
+    // All of it is valid.
+    fn all_valid(self) -> bool
+        ensures { result ≡ all_valid self };
+
+    fn record(self) -> Record
+        ensures { result ≡ record_of self };
+
+    // The same with another record.
+    fn with(self, after: Record) -> Self
+        ensures { result ≡ with self after };
+
+    ghost outcome_is: { (u : Self) (q o : List ℕ) → outcome u q o ≡ holding (with u) (served_by (all_valid u) (record_of u) q o) };
+}
+
+impl Slave for Record {
+    ghost all_valid = { record_valid };
+
+    ghost record_of = { λ r. r };
+
+    ghost with = { λ r s. s };
+
+    ghost outcome = { modbus_of };
+
+    ghost outcome_is = { record_outcome };
+
+    fn all_valid(self) -> bool {
+        self.valid()
+    }
+
+    fn record(self) -> Record {
+        self
+    }
+
+    fn with(self, after: Record) -> Record {
+        after
     }
 }
 
-// The same for a record with a bank beside it, which no request alters.
-pub fn banked_call(before: Banked, request: &[u8], out: &mut [u8]) -> BankedCalled
-    ensures { outcome_as result.answer result.after out.new ≡ banked_modbus_of before request.now out.old }
-{
-    let state = before.state;
-    let bank = before.bank;
-    let replied = serve(before.valid(), state, request, out);
-    let answer = replied.answer;
-    let effect = replied.effect;
-    let after = command::carry_out(state, effect);
-    BankedCalled {
-        answer: answer,
-        after: Banked {
+impl Slave for Banked {
+    ghost all_valid = { banked_valid };
+
+    ghost record_of = { λ b. b.state };
+
+    ghost with = { λ b s. beside s b.bank };
+
+    ghost outcome = { banked_modbus_of };
+
+    ghost outcome_is = { banked_outcome };
+
+    fn all_valid(self) -> bool {
+        self.valid()
+    }
+
+    fn record(self) -> Record {
+        self.state
+    }
+
+    fn with(self, after: Record) -> Banked {
+        Banked {
             state: after,
-            bank: bank,
-        },
+            ..self
+        }
+    }
+}
+
+// One frame that fills the lent request, and one reply buffer. A silence leaves what is held and the buffer as they were; no request
+// alters a bank.
+pub fn call<H: Slave>(before: H, request: &[u8], out: &mut [u8]) -> Called<Answer, H>
+    ensures { outcome_as result.answer result.after out.new ≡ H.outcome before request.now out.old }
+{
+    let record = before.record();
+    let served = serve(before.all_valid(), record, request, out);
+    let after = command::carry_out(record, served.effect);
+    Called {
+        answer: served.answer,
+        after: before.with(after),
     }
 }

@@ -77,7 +77,7 @@ module _ (a c : ℕ) (e : Exchange) (k : Knowledge) where
 
 pub ruleset replying = (reply-impossible, reply-field)
 
-pub ruleset searching = (searched_here, searched_all)
+pub ruleset searching = (searched-none, searched_here, searched_on, searched_all)
 
 -- ---- the exchange
 module _ (a c : ℕ) (q reply : List ℕ) (k : Knowledge) (x : Said) (e : x ≡ said_of a (exchange q reply)) where

@@ -3,15 +3,15 @@
 
 ghost use Rattle.std.specs.Prelude.{◌≡◌, ◌≤◌};
 ghost use Rattle.state.specs.Field.{field_count};
-ghost use Rattle.hearing.specs.Hearing.{exchange};
+ghost use Rattle.hearing.specs.Hearing.{lent};
 ghost use Rattle.reason.specs.Reason.{alone, first_alone, reply_reason, reason_of};
 
-use hearing::Said;
+use hearing::{Exchange, Link, Said};
 use knowledge::{FIELDS, Knowledge};
 
 #[derive(Clone, Copy)]
 pub enum Reason {
-    // A reply where silence Sn was due.
+    // A reply where silence Sn was due: the number, as in Said.
     Answered(u8),
     // Silence where a reply was due.
     Unanswered,
@@ -22,64 +22,52 @@ pub enum Reason {
 }
 
 // What the reply leaves where nothing is known but the set at one position.
-fn left_alone(
-    known: Knowledge,
-    address: u8,
-    access: u8,
-    request: &[u8],
-    reply: &[u8],
-    at: usize,
-) -> Knowledge
-    ensures { result ≡ alone address access (exchange request.now reply.now) known at }
+#[tactic(auto, using(crate::proofs::Steps::left_of))]
+fn left_alone(known: Knowledge, link: Link, exchange: Exchange, at: usize) -> Knowledge
+    ensures { result ≡ alone link.address link.access (lent exchange.entry) known at }
 {
-    let one = knowledge::begin(address, access).put(at, known.code(at));
-    hearing::learn(one, address, access, request, reply, false)
+    let one = knowledge::begin(link.address, link.access).put(at, known.code(at));
+    hearing::learn(one, link, exchange, false)
 }
 
 // The first position whose set alone leaves nothing.
-fn first_alone(known: Knowledge, address: u8, access: u8, request: &[u8], reply: &[u8]) -> usize
-    ensures { (result ≡ first_alone address access (exchange request.now reply.now) known) × (result ≤ field_count) }
+#[tactic(auto, using(crate::proofs::Steps::searching))]
+fn first_alone(known: Knowledge, link: Link, exchange: Exchange) -> usize
+    ensures { (result ≡ first_alone link.address link.access (lent exchange.entry) known) × (result ≤ field_count) }
 {
-    let mut at = 0;
-    while at < FIELDS {
-        let left = left_alone(known, address, access, request, reply, at);
-        if !left.alive {
+    for at in 0..FIELDS {
+        if !left_alone(known, link, exchange, at).alive {
             return at;
         }
-        at += 1;
     }
     FIELDS
 }
 
 // A request and a reply that can be read.
-fn by_reply(known: Knowledge, address: u8, access: u8, request: &[u8], reply: &[u8]) -> Reason
-    ensures { result ≡ reply_reason address access (exchange request.now reply.now) known }
+#[tactic(auto, using(crate::proofs::Steps::replying))]
+fn by_reply(known: Knowledge, link: Link, exchange: Exchange) -> Reason
+    ensures { result ≡ reply_reason link.address link.access (lent exchange.entry) known }
 {
-    let needed = hearing::learn(
-        knowledge::begin(address, access),
-        address,
-        access,
-        request,
-        reply,
-        false,
-    );
+    let nothing = knowledge::begin(link.address, link.access);
+    let needed = hearing::learn(nothing, link, exchange, false);
     if !needed.alive {
         return Reason::Impossible;
     }
-    let at = first_alone(known, address, access, request, reply);
+    let at = first_alone(known, link, exchange);
     Reason::Field(at as u32, known.code(at), needed.code(at))
 }
 
-// Why an exchange refutes, with what is known before it.
-pub fn find(known: Knowledge, address: u8, access: u8, request: &[u8], reply: &[u8]) -> Reason
-    ensures { result ≡ reason_of address access known (exchange request.now reply.now) }
+// Why an exchange refutes, with what is known before it. The three go on as they are: hearing takes the last two, and the first alone tells
+// the sets.
+#[tactic(auto, using(crate::proofs::Steps::finding))]
+pub fn find(known: Knowledge, link: Link, exchange: Exchange) -> Reason
+    ensures { result ≡ reason_of link.address link.access known (lent exchange.entry) }
 {
-    match hearing::hear(address, request, reply) {
-        // This one refutes nothing.
-        Said::Quiet => Reason::Impossible,
+    match hearing::hear(link.address, exchange) {
         Said::Answered(n) => Reason::Answered(n),
         Said::Unanswered => Reason::Unanswered,
-        Said::Unreadable => Reason::Impossible,
-        Said::Texts(_, _) => by_reply(known, address, access, request, reply),
+        // Silence that was kept refutes nothing.
+        Said::Unreadable | Said::Quiet => Reason::Impossible,
+        Said::Texts(..) => by_reply(known, link, exchange),
     }
 }

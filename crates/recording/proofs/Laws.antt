@@ -1,6 +1,6 @@
 -- Laws of the form of a recording: what stands at a place, and the exchanges from there on. Assumes nothing.
 use Prim.Native.Nat.{ℕ, zero, suc, ◌+◌, ◌-◌, ◌*◌, ◌≤◌, ◌<◌}
-use mathlib.Core.Bool.{Bool, true, false, not}
+use mathlib.Core.Bool.{Bool, true, false}
 use mathlib.Core.Path.{◌≡◌, refl, sym, ap, subst, ◌∙◌}
 use mathlib.Core.List.{List, [], ◌∷◌}
 use mathlib.Core.Logic.{⊎_elim}
@@ -9,29 +9,28 @@ use native.Mathlib.Omega.{arith}
 use lib.Dec.{leb, eqb}
 use lib.ListN.{length, take, drop, get_or, length-drop, drop_of_length-le}
 use lib.Seq.{drop-cons, drop-drop}
-use borrow.Author.Tests.{le-leb, lt-leb, lt-ltb, le-ltb, eq-eqb, ne_eqb, not-true, not-false}
+use borrow.Author.Tests.{le-leb, lt-leb, lt-ltb, le-ltb, eq-eqb, ne_eqb}
+use Rattle.std.specs.Prelude.{Option, Some, None, Result, Ok, Err}
 use Rattle.base.specs.Test.{unless, between}
 use Rattle.base.proofs.Tests.{below_or_not, between_yes, between_no}
 use Rattle.state.specs.Field.{address, access, field_range}
 use Rattle.state.specs.Valid.{within as in_range}
 use Rattle.recording.specs.declared.Spans.{Spans}
-use Rattle.recording.specs.declared.Next.{Next}
-use Rattle.recording.specs.declared.Next.TheVariants as next
-use Rattle.recording.specs.declared.Count.{Count}
-use Rattle.recording.specs.declared.Count.TheVariants as count
-use Rattle.recording.specs.Form.{Exchange, Exchanges, whole, cut, before, reply_and_rest, exchanges_in, spans, exchange_at, header_width, recording_of, with_header, J-number, counted, summary, count_of}
+use Rattle.recording.specs.declared.Refusal.{Refusal}
+use Rattle.recording.specs.declared.Refusal.TheVariants.{Cut}
+use Rattle.recording.specs.Form.{Exchange, Exchanges, whole, cut, before, reply_and_rest, exchanges_in, spans, exchange_at, header_width, recording_of, with_header, J-number, counted, refusal_number, Summary, summary, read_as, count_of}
 
 -- ---- what stands at a place
-pub at_end : (s : List ℕ) (at : ℕ) → length s ≤ at → exchange_at s at ≡ next.End
+pub at_end : (s : List ℕ) (at : ℕ) → length s ≤ at → exchange_at s at ≡ Ok None
 unfolding exchange_at
 at_end s at h = simp (le-ltb _ _ h)
 
-pub at_cut-request : (s : List ℕ) (at : ℕ) → at < length s → length s ≤ at + 1 + get_or s at 0 → exchange_at s at ≡ next.Cut
+pub at_cut-request : (s : List ℕ) (at : ℕ) → at < length s → length s ≤ at + 1 + get_or s at 0 → exchange_at s at ≡ Err Cut
 unfolding exchange_at
 at_cut-request s at h g = simp (lt-ltb _ _ h, le-ltb _ _ g)
 
 pub at_cut-reply : (s : List ℕ) (at : ℕ) → at < length s → at + 1 + get_or s at 0 < length s
-    → length s < at + 2 + get_or s at 0 + get_or s (at + 1 + get_or s at 0) 0 → exchange_at s at ≡ next.Cut
+    → length s < at + 2 + get_or s at 0 + get_or s (at + 1 + get_or s at 0) 0 → exchange_at s at ≡ Err Cut
 unfolding exchange_at
 at_cut-reply s at h g f = simp (lt-ltb _ _ h, lt-ltb _ _ g, lt-leb _ _ f)
 
@@ -41,11 +40,13 @@ pub at_exchange : (s : List ℕ) (at : ℕ) → at < length s → at + 1 + get_o
 unfolding exchange_at
 at_exchange s at h g f = simp (lt-ltb _ _ h, lt-ltb _ _ g, le-leb _ _ f)
 
+pub ruleset standing = (at_end, at_cut-request, at_cut-reply, at_exchange)
+
 -- what stands at a place, by these four
-by_place : (s : List ℕ) (at : ℕ) (P : Next → Type 0)
-    → (length s ≤ at → P next.End)
-    → (at < length s → length s ≤ at + 1 + get_or s at 0 → P next.Cut)
-    → (at < length s → at + 1 + get_or s at 0 < length s → length s < at + 2 + get_or s at 0 + get_or s (at + 1 + get_or s at 0) 0 → P next.Cut)
+by_place : (s : List ℕ) (at : ℕ) (P : Result (Option Spans) Refusal → Type 0)
+    → (length s ≤ at → P (Ok None))
+    → (at < length s → length s ≤ at + 1 + get_or s at 0 → P (Err Cut))
+    → (at < length s → at + 1 + get_or s at 0 < length s → length s < at + 2 + get_or s at 0 + get_or s (at + 1 + get_or s at 0) 0 → P (Err Cut))
     → (at < length s → at + 1 + get_or s at 0 < length s → at + 2 + get_or s at 0 + get_or s (at + 1 + get_or s at 0) 0 ≤ length s
     → P (spans at (get_or s at 0) (get_or s (at + 1 + get_or s at 0) 0)))
     → P (exchange_at s at)
@@ -64,16 +65,24 @@ pub record Within (s : List ℕ) (at : ℕ) (p : Spans) : Type 0 where
   pub answered : p.reply ≤ p.end
   pub inside : p.end ≤ length s
 
-pub within : (s : List ℕ) (at : ℕ) (p : Spans) → exchange_at s at ≡ next.Exchange p → Within s at p
+pub within : (s : List ℕ) (at : ℕ) (p : Spans) → exchange_at s at ≡ Ok (Some p) → Within s at p
 within s at p e =
     subst WithinAt e
     (by_place s at WithinAt (λ h. tt) (λ h g. tt) (λ h g f. tt)
     (λ h g f. record { first = refl; asked = omega arith; between = omega arith; answered = omega arith; inside = f }))
   where
-    WithinAt : Next → Type 0
-    WithinAt next.End = Unit {0}
-    WithinAt next.Cut = Unit {0}
-    WithinAt (next.Exchange q) = Within s at q
+    WithinAt : Result (Option Spans) Refusal → Type 0
+    WithinAt (Ok None) = Unit {0}
+    WithinAt (Err k) = Unit {0}
+    WithinAt (Ok (Some q)) = Within s at q
+
+-- an error is always a cut
+pub always_cut : (s : List ℕ) (at : ℕ) (why : Refusal) → exchange_at s at ≡ Err why → why ≡ Cut
+always_cut s at why =
+    by_place s at (λ (x : Result (Option Spans) Refusal). x ≡ Err why → why ≡ Cut) (λ h e. absurd (never (cc))) (λ h g e. cc) (λ h g f e. cc) (λ h g f e. absurd (never (cc)))
+  where
+    never : ◌≡◌ {A = ℕ} 0 1 → ⊥
+    never e = omega arith
 
 -- ---- any fuel that is at least the number of bytes serves
 same_rest : (f g : List ℕ → Exchanges) (q bs : List ℕ) → ((t : List ℕ) → length t ≤ length bs → f t ≡ g t) → reply_and_rest f q bs ≡ reply_and_rest g q bs
@@ -101,10 +110,10 @@ same_fuel (suc m) (suc k) (n ∷ bs) h g =
 abbrev pub spanned : List ℕ → Spans → Exchange
 spanned s p = record { request = take (p.stop - p.request) (drop p.request s); reply = take (p.end - p.reply) (drop p.reply s) }
 
-abbrev pub unrolled : List ℕ → Next → Exchanges
-unrolled s next.End = whole []
-unrolled s next.Cut = cut
-unrolled s (next.Exchange p) = before (spanned s p) (exchanges_in (length s) (drop p.end s))
+abbrev pub unrolled : List ℕ → Result (Option Spans) Refusal → Exchanges
+unrolled s (Ok None) = whole []
+unrolled s (Err k) = cut
+unrolled s (Ok (Some p)) = before (spanned s p) (exchanges_in (length s) (drop p.end s))
 
 -- the byte at a place, and the bytes after it
 byte_and-rest : (s : List ℕ) (i : ℕ) → i < length s → drop i s ≡ get_or s i 0 ∷ drop (i + 1) s
@@ -183,13 +192,13 @@ module _ (s : List ℕ) (at : ℕ) (h : at < length s) where
 -- for every place: the exchange that stands there and those from its end on, or the end, or a cut
 pub unroll : (s : List ℕ) (at : ℕ) → exchanges_in (length s) (drop at s) ≡ unrolled s (exchange_at s at)
 unroll s at =
-    by_place s at (λ (x : Next). exchanges_in (length s) (drop at s) ≡ unrolled s x)
+    by_place s at (λ (x : Result (Option Spans) Refusal). exchanges_in (length s) (drop at s) ≡ unrolled s x)
     (λ h. ap (exchanges_in (length s)) (drop_of_length-le s h) ∙ none_left (length s)) (cut_in_request s at) (cut_in_reply s at) (one_more s at)
 
 -- ---- counting
-abbrev pub more : ℕ → Count → Count
-more n (count.Whole k) = count.Whole (n + k)
-more n count.Cut = count.Cut
+abbrev pub more : ℕ → Result ℕ Refusal → Result ℕ Refusal
+more n (Ok k) = Ok (n + k)
+more n (Err why) = Err why
 
 -- n exchanges stand before the place
 pub record Counted (s : List ℕ) (at n : ℕ) : Type 0 where
@@ -197,95 +206,97 @@ pub record Counted (s : List ℕ) (at n : ℕ) : Type 0 where
   pub few : n ≤ at
   pub all : count_of (exchanges_in (length s) (drop header_width s)) ≡ more n (count_of (exchanges_in (length s) (drop at s)))
 
-no_more : (x : Count) → x ≡ more 0 x
-no_more (count.Whole k) = ap count.Whole (omega arith)
-no_more count.Cut = refl
+no_more : (x : Result ℕ Refusal) → x ≡ more 0 x
+no_more (Ok k) = ap Ok (omega arith)
+no_more (Err why) = refl
 
 one_before : (n : ℕ) (e : Exchange) (x : Exchanges) → more n (count_of (before e x)) ≡ more (n + 1) (count_of x)
-one_before n e (whole es) = ap count.Whole (omega arith)
+one_before n e (whole es) = ap Ok (omega arith)
 one_before n e cut = refl
 
 pub counted_none : (s : List ℕ) → header_width ≤ length s → Counted s header_width 0
 counted_none s h = record { inside = h; few = omega arith; all = no_more (count_of (exchanges_in (length s) (drop header_width s))) }
 
-module _ (s : List ℕ) (at n : ℕ) (x : Next) (k : Counted s at n) (i : x ≡ exchange_at s at) where
-  all_by : (y : Next) → x ≡ y → count_of (exchanges_in (length s) (drop header_width s)) ≡ more n (count_of (unrolled s y))
-  all_by y e = k.all ∙ ap (λ (z : Exchanges). more n (count_of z)) (unroll s at ∙ ap (unrolled s) (sym i ∙ e))
+module _ (s : List ℕ) (at n : ℕ) (k : Counted s at n) where
+  all_by : (y : Result (Option Spans) Refusal) → exchange_at s at ≡ y → count_of (exchanges_in (length s) (drop header_width s)) ≡ more n (count_of (unrolled s y))
+  all_by y e = k.all ∙ ap (λ (z : Exchanges). more n (count_of z)) (unroll s at ∙ ap (unrolled s) e)
 
-  pub counted_all : x ≡ next.End → count.Whole n ≡ count_of (exchanges_in (length s) (drop header_width s))
-  counted_all e = let z : n + 0 ≡ n = omega arith in sym (all_by next.End e ∙ ap count.Whole z)
+  pub counted_all : exchange_at s at ≡ Ok None → count_of (exchanges_in (length s) (drop header_width s)) ≡ Ok n
+  counted_all e = let z : n + 0 ≡ n = omega arith in all_by (Ok None) e ∙ ap Ok z
 
-  pub counted-cut : x ≡ next.Cut → count.Cut ≡ count_of (exchanges_in (length s) (drop header_width s))
-  counted-cut e = sym (all_by next.Cut e)
+  pub counted-cut : (why : Refusal) → exchange_at s at ≡ Err why → count_of (exchanges_in (length s) (drop header_width s)) ≡ Err why
+  counted-cut why e = all_by (Err why) e ∙ ap Err (sym (always_cut s at why e))
 
-  pub counted_one : (p : Spans) → x ≡ next.Exchange p → Counted s p.end (n + 1)
+  pub counted_one : (p : Spans) → exchange_at s at ≡ Ok (Some p) → Counted s p.end (n + 1)
   counted_one p e =
-      let w : Within s at p = within s at p (sym i ∙ e) in
+      let w : Within s at p = within s at p e in
       record {
         inside = w.inside;
         few = omega (arith, k.few);
-        all = all_by (next.Exchange p) e ∙ one_before n (spanned s p) (exchanges_in (length s) (drop p.end s));
+        all = all_by (Ok (Some p)) e ∙ one_before n (spanned s p) (exchanges_in (length s) (drop p.end s));
       }
 
-  pub one_fits : (p : Spans) → x ≡ next.Exchange p → n < length s
-  one_fits p e = omega (arith, k.few, within s at p (sym i ∙ e))
+  pub one_fits : (p : Spans) → exchange_at s at ≡ Ok (Some p) → n < length s
+  one_fits p e = omega (arith, k.few, within s at p e)
 
-  pub one_nearer : (p : Spans) → x ≡ next.Exchange p → length s - p.end < length s - at
-  one_nearer p e = omega (arith, within s at p (sym i ∙ e))
+  pub one_nearer : (p : Spans) → exchange_at s at ≡ Ok (Some p) → length s - p.end < length s - at
+  one_nearer p e = omega (arith, within s at p e)
 
--- ---- the summary of what a header and exchanges make, by the count
-by_count-cut : (a c : ℕ) (x : Exchanges) → count_of x ≡ count.Cut → summary (with_header a c x) ≡ J-number 5
-by_count-cut a c (whole es) e = let z : ◌≡◌ {A = ℕ} 0 1 = cc in absurd (omega arith)
-by_count-cut a c cut e = refl
+-- the summary of what a header and exchanges make, by their count
+abbrev pub summary_by : ℕ → ℕ → Result ℕ Refusal → Summary
+summary_by a c (Ok n) = counted a c n
+summary_by a c (Err why) = J-number (refusal_number why)
 
-by_count : (a c k : ℕ) (x : Exchanges) → count_of x ≡ count.Whole k → summary (with_header a c x) ≡ counted a c k
-by_count a c k (whole es) e = let z : length es ≡ k = cc in ap (counted a c) z
-by_count a c k cut e = let z : ◌≡◌ {A = ℕ} 0 1 = cc in absurd (omega arith)
+by_count : (a c : ℕ) (x : Exchanges) (n : Result ℕ Refusal) → count_of x ≡ n → summary (with_header a c x) ≡ summary_by a c n
+by_count a c (whole es) n e = ap (summary_by a c) e
+by_count a c cut n e = ap (summary_by a c) e
+
+pub ruleset counting = (counted_none, counted_all, counted-cut, counted_one, one_fits, one_nearer)
 
 -- ---- reading, one law for each return
-pub read_size : (s : List ℕ) → (header_width ≤ length s → length s ≤ 65535 → ⊥) → J-number 1 ≡ summary (recording_of s)
+pub read_short : (s : List ℕ) → length s < header_width → summary (recording_of s) ≡ J-number 1
 unfolding recording_of
-read_size s h = simp (between_no 5 65535 (length s) h)
+read_short s h = simp (between_no 5 65535 (length s) (λ p q. omega arith))
+
+pub read_long : (s : List ℕ) → 65535 < length s → summary (recording_of s) ≡ J-number 1
+unfolding recording_of
+read_long s h = simp (between_no 5 65535 (length s) (λ p q. omega arith))
 
 module _ (s : List ℕ) (low : header_width ≤ length s) (high : length s ≤ 65535) where
   size : between 5 65535 (length s) ≡ true
   size = between_yes 5 65535 (length s) low high
 
-  pub read_version : (get_or s 0 0 ≡ 1 → ⊥) → J-number 2 ≡ summary (recording_of s)
+  pub read_version : (get_or s 0 0 ≡ 1 → ⊥) → summary (recording_of s) ≡ J-number 2
   unfolding recording_of
   read_version h = simp (size, ne_eqb _ _ h)
 
-  module _ (version : get_or s 0 0 ≡ 1) (x y : ℕ) (i : x ≡ get_or s 1 0) (j : y ≡ get_or s 2 0) where
-    pub read_field : (x * 256 + y ≡ length s → ⊥) → J-number 3 ≡ summary (recording_of s)
+  module _ (version : get_or s 0 0 ≡ 1) where
+    pub read_field : (get_or s 1 0 * 256 + get_or s 2 0 ≡ length s → ⊥) → summary (recording_of s) ≡ J-number 3
     unfolding recording_of
-    read_field h = simp (size, eq-eqb _ _ version, ne_eqb (get_or s 1 0 * 256 + get_or s 2 0) (length s) (λ e. h (omega arith)))
+    read_field h = simp (size, eq-eqb _ _ version, ne_eqb (get_or s 1 0 * 256 + get_or s 2 0) (length s) h)
 
-    module _ (field : x * 256 + y ≡ length s) where
+    module _ (field : get_or s 1 0 * 256 + get_or s 2 0 ≡ length s) where
       same_size : eqb (get_or s 1 0 * 256 + get_or s 2 0) (length s) ≡ true
-      same_size = eq-eqb (get_or s 1 0 * 256 + get_or s 2 0) (length s) (omega arith)
+      same_size = eq-eqb (get_or s 1 0 * 256 + get_or s 2 0) (length s) field
 
-      module _ (a : ℕ) (b : Bool) (same : a ≡ get_or s 3 0) (told : b ≡ in_range (field_range address) a) where
-        tested : in_range (field_range address) (get_or s 3 0) ≡ b
-        tested = sym (told ∙ ap (in_range (field_range address)) same)
+      pub read_address : in_range (field_range address) (get_or s 3 0) ≡ false → summary (recording_of s) ≡ J-number 4
+      unfolding recording_of
+      read_address h = simp (size, eq-eqb _ _ version, same_size, h)
 
-        pub read_address : not b ≡ true → J-number 4 ≡ summary (recording_of s)
+      module _ (unit : in_range (field_range address) (get_or s 3 0) ≡ true) where
+        pub read_access : in_range (field_range access) (get_or s 4 0) ≡ false → summary (recording_of s) ≡ J-number 4
         unfolding recording_of
-        read_address h = simp (size, eq-eqb _ _ version, same_size, tested, not-true b h)
+        read_access h = simp (size, eq-eqb _ _ version, same_size, unit, h)
 
-        module _ (unit : not b ≡ false) where
-          pub read_access : (field_range access).high < get_or s 4 0 → J-number 4 ≡ summary (recording_of s)
+        module _ (link : in_range (field_range access) (get_or s 4 0) ≡ true) where
+          through : recording_of s ≡ with_header (get_or s 3 0) (get_or s 4 0) (exchanges_in (length s) (drop header_width s))
           unfolding recording_of
-          read_access h = simp (size, eq-eqb _ _ version, same_size, tested, not-false b unit, between_no (field_range access).low (field_range access).high (get_or s 4 0) (λ p q. omega arith))
+          through = simp (size, eq-eqb _ _ version, same_size, unit, link)
 
-          pub read_through : get_or s 4 0 ≤ (field_range access).high → recording_of s ≡ with_header (get_or s 3 0) (get_or s 4 0) (exchanges_in (length s) (drop header_width s))
-          unfolding recording_of
-          read_through h = simp (size, eq-eqb _ _ version, same_size, tested, not-false b unit, between_yes (field_range access).low (field_range access).high (get_or s 4 0) (omega arith) h)
+          pub read_cut : (why : Refusal) → count_of (exchanges_in (length s) (drop header_width s)) ≡ Err why → summary (recording_of s) ≡ read_as (Err why)
+          read_cut why e = ap summary through ∙ by_count (get_or s 3 0) (get_or s 4 0) (exchanges_in (length s) (drop header_width s)) (Err why) e
 
--- after the header, by the count
-module _ (s : List ℕ) (n : Count) (through : recording_of s ≡ with_header (get_or s 3 0) (get_or s 4 0) (exchanges_in (length s) (drop header_width s)))
-    (all : n ≡ count_of (exchanges_in (length s) (drop header_width s))) where
-  pub read_cut : n ≡ count.Cut → J-number 5 ≡ summary (recording_of s)
-  read_cut e = sym (ap summary through ∙ by_count-cut (get_or s 3 0) (get_or s 4 0) (exchanges_in (length s) (drop header_width s)) (sym all ∙ e))
+          pub read_whole : (n : ℕ) → count_of (exchanges_in (length s) (drop header_width s)) ≡ Ok n → summary (recording_of s) ≡ counted (get_or s 3 0) (get_or s 4 0) n
+          read_whole n e = ap summary through ∙ by_count (get_or s 3 0) (get_or s 4 0) (exchanges_in (length s) (drop header_width s)) (Ok n) e
 
-  pub read_whole : (k : ℕ) → n ≡ count.Whole k → counted (get_or s 3 0) (get_or s 4 0) k ≡ summary (recording_of s)
-  read_whole k e = sym (ap summary through ∙ by_count (get_or s 3 0) (get_or s 4 0) k (exchanges_in (length s) (drop header_width s)) (sym all ∙ e))
+pub ruleset reading = (read_short, read_long, read_version, read_field, read_address, read_access, read_cut, read_whole)

@@ -1,16 +1,12 @@
 -- Document 01, "Recordings and the judge": the form of a recording.
-use Rattle.std.specs.Prelude.{ℕ, zero, suc, ◌+◌, ◌*◌, ◌&&◌, List, [], ◌∷◌, eqb, leb, ltb, length, get_or, take, drop}
+use Rattle.std.specs.Prelude.{ℕ, zero, suc, ◌+◌, ◌*◌, ◌&&◌, List, [], ◌∷◌, Option, Some, None, Result, Ok, Err, eqb, leb, ltb, length, get_or, take, drop}
 use Rattle.base.specs.Test.{between, unless}
 use Rattle.state.specs.Field.{address, access, field_range}
 use Rattle.state.specs.Valid.{within}
-use Rattle.recording.specs.declared.Next.{Next}
-use Rattle.recording.specs.declared.Next.TheVariants as next
+use Rattle.recording.specs.declared.Spans.{Spans}
 use Rattle.recording.specs.declared.Refusal.{Refusal}
 use Rattle.recording.specs.declared.Refusal.TheVariants as refusal
-use Rattle.recording.specs.declared.Count.{Count}
-use Rattle.recording.specs.declared.Count.TheVariants as count
-use Rattle.recording.specs.declared.Read.{Read}
-use Rattle.recording.specs.declared.Read.TheVariants as read
+use Rattle.recording.specs.declared.Recorded.{Recorded}
 
 -- "one length byte and the request frame, one length byte and the reply frame (0: no reply)"
 pub record Exchange : Type 0 where
@@ -61,14 +57,14 @@ recording_of bs =
 -- ---- the same by places in the bytes, as the code goes through them
 
 -- where the exchange that starts at a place has its request and its reply; the next one starts where the reply ends
-abbrev pub spans : ℕ → ℕ → ℕ → Next
-spans at n m = next.Exchange (record { request = at + 1; stop = at + 1 + n; reply = at + 2 + n; end = at + 2 + n + m })
+abbrev pub spans : ℕ → ℕ → ℕ → Result (Option Spans) Refusal
+spans at n m = Ok (Some (record { request = at + 1; stop = at + 1 + n; reply = at + 2 + n; end = at + 2 + n + m }))
 
-unfoldable pub exchange_at : List ℕ → ℕ → Next
+unfoldable pub exchange_at : List ℕ → ℕ → Result (Option Spans) Refusal
 exchange_at s at =
-    unless (ltb at (length s)) next.End
-    (unless (ltb (at + 1 + get_or s at 0) (length s)) next.Cut
-    (unless (leb (at + 2 + get_or s at 0 + get_or s (at + 1 + get_or s at 0) 0) (length s)) next.Cut
+    unless (ltb at (length s)) (Ok None)
+    (unless (ltb (at + 1 + get_or s at 0) (length s)) (Err refusal.Cut)
+    (unless (leb (at + 2 + get_or s at 0 + get_or s (at + 1 + get_or s at 0) 0) (length s)) (Err refusal.Cut)
     (spans at (get_or s at 0) (get_or s (at + 1 + get_or s at 0) 0))))
 
 -- the code's answer as document 01 numbers it: Jn, or the address, the access and the number of exchanges
@@ -87,10 +83,10 @@ refusal_number refusal.LengthField = 3
 refusal_number refusal.Header = 4
 refusal_number refusal.Cut = 5
 
-abbrev pub read_as : Read → Summary
-read_as (read.Refused k) = J-number (refusal_number k)
-read_as (read.Recorded a c n) = counted a c n
+abbrev pub read_as : Result Recorded Refusal → Summary
+read_as (Err k) = J-number (refusal_number k)
+read_as (Ok r) = counted r.address r.access r.count
 
-abbrev pub count_of : Exchanges → Count
-count_of (whole es) = count.Whole (length es)
-count_of cut = count.Cut
+abbrev pub count_of : Exchanges → Result ℕ Refusal
+count_of (whole es) = Ok (length es)
+count_of cut = Err refusal.Cut

@@ -4,11 +4,10 @@
 ghost use Rattle.std.specs.Prelude.{◌≡◌, ◌≤◌, length, drop};
 ghost use Rattle.recording.specs.Form.{header_width, exchanges_in, exchange_at, recording_of, summary, read_as, count_of, refusal_number};
 
-use base::wide;
 use state::{ACCESS_RANGE, ADDRESS_RANGE, within};
 
 // Why a recording is refused.
-#[derive(Clone, Copy)]
+#[derive(Clone, Copy, PartialEq, Eq)]
 pub enum Refusal {
     // J1
     Length,
@@ -23,15 +22,17 @@ pub enum Refusal {
 }
 
 // The number of J1 to J5.
-pub fn number_of(refusal: Refusal) -> u8
-    ensures { result ≡ refusal_number refusal }
-{
-    match refusal {
-        Refusal::Length => 1,
-        Refusal::Version => 2,
-        Refusal::LengthField => 3,
-        Refusal::Header => 4,
-        Refusal::Cut => 5,
+impl From<Refusal> for u8 {
+    ghost from_gives = { λ refusal n. n ≡ refusal_number refusal };
+
+    fn from(refusal: Refusal) -> u8 {
+        match refusal {
+            Refusal::Length => 1,
+            Refusal::Version => 2,
+            Refusal::LengthField => 3,
+            Refusal::Header => 4,
+            Refusal::Cut => 5,
+        }
     }
 }
 
@@ -44,104 +45,81 @@ pub struct Spans {
     pub end: usize,
 }
 
-// What stands at a place.
+// A header's address and access, and how many exchanges there are.
 #[derive(Clone, Copy)]
-pub enum Next {
-    End,
-    Cut,
-    Exchange(Spans),
-}
-
-// The address, the access and the number of exchanges, or a refusal.
-#[derive(Clone, Copy)]
-pub enum Read {
-    Refused(Refusal),
-    Recorded(u8, u8, usize),
+pub struct Recorded {
+    pub address: u8,
+    pub access: u8,
+    pub count: usize,
 }
 
 pub const HEADER: usize = 5;
 
-const HIGH_ACCESS: u8 = ACCESS_RANGE.high as u8;
-
-// The exchange that starts at a place.
-pub fn exchange_at(s: &[u8], at: usize) -> Next
+// The exchange that starts at a place: none at the end; Refusal::Cut if it goes beyond.
+#[tactic(auto, using(crate::proofs::Laws::standing))]
+pub fn exchange_at(s: &[u8], at: usize) -> Result<Option<Spans>, Refusal>
     ensures { result ≡ exchange_at s.now at }
 {
     if s.len() <= at {
-        return Next::End;
+        return Ok(None);
     }
     let left = s.len() - at;
-    let request = s[at] as usize;
+    let request = usize::from(s[at]);
     if left <= request + 1 {
-        return Next::Cut;
+        return Err(Refusal::Cut);
     }
-    let reply = s[at + 1 + request] as usize;
+    let reply = usize::from(s[at + 1 + request]);
     if left < request + 2 + reply {
-        return Next::Cut;
+        return Err(Refusal::Cut);
     }
-    Next::Exchange(Spans {
+    Ok(Some(Spans {
         request: at + 1,
         stop: at + 1 + request,
         reply: at + 2 + request,
         end: at + 2 + request + reply,
-    })
+    }))
 }
 
-// How many exchanges there are to the end, or that one is cut.
-#[derive(Clone, Copy)]
-enum Count {
-    Cut,
-    Whole(usize),
-}
-
-fn count_exchanges(s: &[u8]) -> Count
+// How many exchanges there are to the end.
+#[tactic(auto, using(crate::proofs::Laws::counting))]
+fn count_exchanges(s: &[u8]) -> Result<usize, Refusal>
     requires { header_width ≤ length s.now }
     ensures { result ≡ count_of (exchanges_in (length s.now) (drop header_width s.now)) }
 {
     let mut at = HEADER;
-    let mut n = 0;
-    loop {
-        match exchange_at(s, at) {
-            Next::End => {
-                return Count::Whole(n);
-            }
-            Next::Cut => {
-                return Count::Cut;
-            }
-            Next::Exchange(spans) => {
-                at = spans.end;
-                n += 1;
-            }
-        }
+    let mut count = 0;
+    // From exchange to exchange, by `exchange_at`, of which C asks too.
+    while let Some(spans) = exchange_at(s, at)? {
+        at = spans.end;
+        count += 1;
     }
+    Ok(count)
 }
 
 // Reads a recording's header and counts its exchanges. Refusals over the entire recording come before any judging.
-pub fn read_recording(s: &[u8]) -> Read
+#[tactic(auto, using(crate::proofs::Laws::reading))]
+pub fn read_recording(s: &[u8]) -> Result<Recorded, Refusal>
     ensures { read_as result ≡ summary (recording_of s.now) }
 {
-    if s.len() < HEADER {
-        return Read::Refused(Refusal::Length);
+    let &[version, high, low, address, access, ..] = s else {
+        return Err(Refusal::Length);
+    };
+    if usize::from(u16::MAX) < s.len() {
+        return Err(Refusal::Length);
     }
-    if 65535 < s.len() {
-        return Read::Refused(Refusal::Length);
+    if version != 1 {
+        return Err(Refusal::Version);
     }
-    if s[0] != 1 {
-        return Read::Refused(Refusal::Version);
+    if usize::from(u16::from_be_bytes([high, low])) != s.len() {
+        return Err(Refusal::LengthField);
     }
-    if (wide(s[1]) * 256 + wide(s[2])) as usize != s.len() {
-        return Read::Refused(Refusal::LengthField);
+    if !within(ADDRESS_RANGE, u32::from(address)) || !within(ACCESS_RANGE, u32::from(access)) {
+        return Err(Refusal::Header);
     }
-    let address = s[3];
-    let access = s[4];
-    if !within(ADDRESS_RANGE, wide(address)) {
-        return Read::Refused(Refusal::Header);
-    }
-    if HIGH_ACCESS < access {
-        return Read::Refused(Refusal::Header);
-    }
-    match count_exchanges(s) {
-        Count::Cut => Read::Refused(Refusal::Cut),
-        Count::Whole(n) => Read::Recorded(address, access, n),
-    }
+    let count = count_exchanges(s)?;
+    Ok(Recorded {
+        address,
+        access,
+        count,
+    })
 }

@@ -21,7 +21,9 @@ use Rattle.state.specs.Event.{running, stopped, done}
 use Rattle.state.specs.Event as event
 use Rattle.state.proofs.Fields.{flag_back}
 use Rattle.frame.specs.Frame.{all_text}
-use Rattle.command.specs.declared.Answer.{Answer}
+use Rattle.command.specs.declared.Request.{Request}
+use Rattle.command.specs.declared.Refusal.{Refusal}
+use Rattle.std.specs.Prelude.{Option, Some, None, Result}
 use Rattle.command.specs.declared.Reading.{Reading}
 use Rattle.command.specs.Status.{passes, Bit, first, second, third, fourth, weight_in, status_characters, alarm_characters, Code, status_codes, codes_on}
 use Rattle.command.specs.Commands.{Arguments, numbered, acknowledged, composition, parameter_label, factor_place, printed, Command, commands, row_of}
@@ -33,7 +35,6 @@ use Rattle.text.proofs.Words.{digits-length}
 use Rattle.text.proofs.Printable.{Text, text_wider, text_joined, text-word, one_text, no_text, space-text, text-digits, text-labelled}
 use Rattle.text.proofs.Writing.{Laid, laid_none, laid_same, joined, room-written, digits_high}
 use Rattle.reply.specs.declared.Kept.{Kept}
-use Rattle.reply.specs.declared.Kept.TheVariants as kept
 use Rattle.reply.specs.Reply.{labelled, labelled_two, text_for, laid_text, written_of, kept_words, kept_text}
 
 -- ---- a word and a number
@@ -46,14 +47,19 @@ labelled-length w k n = simp (length-append, digits-length k n)
 abbrev pub character_of : Bool → Bool → Bool → Bool → ℕ
 character_of eight four two one = 0x30 + (8 * flag_number eight + (4 * flag_number four + (2 * flag_number two + 1 * flag_number one)))
 
+-- whether the record is in a phase, as the code asks it
+abbrev pub InPhase : Record → ℕ → Bool → Type 0
+InPhase r p b = b ≡ eqb (phase_number r.phase) p
+
 -- the six characters, from the signs that the code finds
-pub status-laid : (r : Record) (at n p a b c d : ℕ) (o o₁ : List ℕ) → p ≡ phase_number r.phase
-    → a ≡ character_of r.keypad (eqb p running) r.flow (eqb p event.set || (eqb p running || eqb p stopped))
-    → b ≡ character_of (eqb p running || eqb p stopped) (eqb p done) r.reset false → c ≡ character_of false false false (not (eqb r.alarms no_alarm))
-    → d ≡ character_of r.changed false false r.powerfail
+pub status-laid : (r : Record) (at n a b c d : ℕ) (u v w x : Bool) (o o₁ : List ℕ)
+    → a ≡ character_of r.keypad u r.flow (w || (u || v)) → b ≡ character_of (u || v) x r.reset false
+    → c ≡ character_of false false false (not (eqb r.alarms no_alarm)) → d ≡ character_of r.changed false false r.powerfail
+    → InPhase r running u → InPhase r stopped v → InPhase r event.set w → InPhase r done x
     → Laid at (a ∷ b ∷ c ∷ d ∷ 0x30 ∷ 0x30 ∷ []) o n o₁ → Laid at (status_characters r) o n o₁
 unfolding status_characters weight_in
-status-laid r at n p a b c d o o₁ e f g i h = laid_same at n _ _ o o₁ (simp (f, g, i, h, e, flag_back, or-false, add-zero, zero-add))
+status-laid r at n a b c d u v w x o o₁ f g h i running_so stopped_so set_so done_so =
+    laid_same at n _ _ o o₁ (simp (f, g, h, i, running_so, stopped_so, set_so, done_so, flag_back, or-false, add-zero, zero-add))
 
 -- the five characters of the alarms
 pub alarms-laid : (m at n a b c d e : ℕ) (o o₁ : List ℕ) → a ≡ 0x30 + m / 32768 % 16 → b ≡ 0x30 + m / 2048 % 16 → c ≡ 0x30 + m / 128 % 16
@@ -63,12 +69,12 @@ alarms-laid m at n a b c d e o o₁ f g h i k =
     let l : e ≡ 0x30 + m / 1 % 8 = omega arith in
     laid_same at n _ _ o o₁ (simp (f, g, h, i, l))
 
--- the phase p of the record is one of these
-pub in_one : (i p q : ℕ) → p ≡ q → member q (i ∷ []) ≡ eqb p i
-in_one i p q e = simp (e, or-false)
+-- the phase of the record is one of these
+pub in_one : (r : Record) (p : ℕ) (u : Bool) → InPhase r p u → member (phase_number r.phase) (p ∷ []) ≡ u
+in_one r p u e = simp (e, or-false)
 
-pub in_two : (i j p q : ℕ) → p ≡ q → member q (i ∷ j ∷ []) ≡ (eqb p i || eqb p j)
-in_two i j p q e = simp (e, or-false)
+pub in_two : (r : Record) (p q : ℕ) (u v : Bool) → InPhase r p u → InPhase r q v → member (phase_number r.phase) (p ∷ q ∷ []) ≡ (u || v)
+in_two r p q u v e f = simp (e, f, or-false)
 
 -- one code more before the others
 pub code_laid : (s : Code) (ss : List Code) (r : Record) (b : Bool) (at n m : ℕ) (o o₁ o₂ : List ℕ) → passes s.if r ≡ b
@@ -125,27 +131,27 @@ words-laid a w b n o o₁ o₂ h f l =
     let g : o₂ ≡ over t o = all.1 ∙ over_at_start t o in
     simp (le-leb _ _ h, m, g)
 
-pub written : (d e : Answer) (r : Record) (b n : ℕ) (o o₁ o₂ : List ℕ) → 60 ≤ length o → d ≡ e
+pub written : (d e : Result Request Refusal) (r : Record) (b n : ℕ) (o o₁ o₂ : List ℕ) → 60 ≤ length o → d ≡ e
     → (b, o₁) ≡ written_at 0 (digits 2 r.address) o → Laid b (answer_text (answer_as e) r) o₁ n o₂ → (n, o₂) ≡ written_of (answer_as d) r o
 unfolding written_of text_for
 written d e r b n o o₁ o₂ h z f a =
-    words-laid r.address (answer_text (answer_as e) r) b n o o₁ o₂ h f a ∙ ap (λ (y : Answer). laid_text (digits 2 r.address ++ answer_text (answer_as y) r) o) (sym z)
+    words-laid r.address (answer_text (answer_as e) r) b n o o₁ o₂ h f a ∙ ap (λ (y : Result Request Refusal). laid_text (digits 2 r.address ++ answer_text (answer_as y) r) o) (sym z)
 
 -- of a kept batch
-module _ (x : Kept) (a b n : ℕ) (o o₁ o₂ : List ℕ) (h : 60 ≤ length o) (f : (b, o₁) ≡ written_at 0 (digits 2 a) o) where
-  kept_laid : (y : Kept) → x ≡ y → Laid b (kept_words y) o₁ n o₂ → (n, o₂) ≡ laid_text (kept_text a x) o
+module _ (x : Option Kept) (a b n : ℕ) (o o₁ o₂ : List ℕ) (h : 60 ≤ length o) (f : (b, o₁) ≡ written_at 0 (digits 2 a) o) where
+  kept_laid : (y : Option Kept) → x ≡ y → Laid b (kept_words y) o₁ n o₂ → (n, o₂) ≡ laid_text (kept_text a x) o
   unfolding kept_text
-  kept_laid y z l = words-laid a (kept_words y) b n o o₁ o₂ h f l ∙ ap (λ (w : Kept). laid_text (digits 2 a ++ kept_words w) o) (sym z)
+  kept_laid y z l = words-laid a (kept_words y) b n o o₁ o₂ h f l ∙ ap (λ (w : Option Kept). laid_text (digits 2 a ++ kept_words w) o) (sym z)
 
   same-room : length o₁ ≡ length o
   same-room = ap length (address-laid a b o o₁ h f).1 ∙ over_at-length 0 (digits 2 a) o (omega (arith, digits_high 2 a))
 
-  pub kept_none : x ≡ kept.Nothing → (n, o₂) ≡ written_at b (0x4e ∷ 0x4f ∷ 0x30 ∷ 0x33 ∷ []) o₁ → (n, o₂) ≡ laid_text (kept_text a x) o
+  pub kept_none : x ≡ None → (n, o₂) ≡ written_at b (0x4e ∷ 0x4f ∷ 0x30 ∷ 0x33 ∷ []) o₁ → (n, o₂) ≡ laid_text (kept_text a x) o
   unfolding digits
-  kept_none z w = kept_laid kept.Nothing z (room-written b n (0x4e ∷ 0x4f ∷ 0x30 ∷ 0x33 ∷ []) o₁ o₂ (omega (arith, address-end a b o o₁ h f, same-room)) w)
+  kept_none z w = kept_laid None z (room-written b n (0x4e ∷ 0x4f ∷ 0x30 ∷ 0x33 ∷ []) o₁ o₂ (omega (arith, address-end a b o o₁ h f, same-room)) w)
 
-  pub kept_volume : (v m : ℕ) → x ≡ kept.Volume v m → Laid b (labelled_two (text "RT R ") 8 v 3 m) o₁ n o₂ → (n, o₂) ≡ laid_text (kept_text a x) o
-  kept_volume v m z l = kept_laid (kept.Volume v m) z l
+  pub kept_volume : (k : Kept) → x ≡ Some k → Laid b (labelled_two (text "RT R ") 8 k.raw 3 k.number) o₁ n o₂ → (n, o₂) ≡ laid_text (kept_text a x) o
+  kept_volume k z l = kept_laid (Some k) z l
 
   pub volume_room : b + length (text "RT R ") + 8 + 1 + 3 ≤ length o₁
   volume_room = omega (arith, address-end a b o o₁ h f, same-room)
@@ -280,11 +286,11 @@ pub text_legal : (a : Answered) (r : Record) → Answers a → Text 4 (2 + longe
 unfolding text_for
 text_legal a r h = text_joined 2 2 2 longest (digits 2 r.address) (answer_text a r) (text-digits 2 r.address) (h r)
 
-pub kept_legal : (a : ℕ) (x : Kept) → Text 4 (2 + longest) (kept_text a x)
+pub kept_legal : (a : ℕ) (x : Option Kept) → Text 4 (2 + longest) (kept_text a x)
 unfolding kept_text all_between
-kept_legal a kept.Nothing =
+kept_legal a None =
     text_wider _ _ _ _ _ (omega arith) (omega arith) (text_joined 2 2 4 4 (digits 2 a) _ (text-digits 2 a) (text-labelled (text "NO") 2 3 refl))
-kept_legal a (kept.Volume v n) =
+kept_legal a (Some k) =
     text_wider _ _ _ _ _ (omega arith) (omega arith)
     (text_joined 2 2 17 17 (digits 2 a) _ (text-digits 2 a)
-    (text_joined 13 13 4 4 (text "RT R " ++ digits 8 v) _ (text-labelled (text "RT R ") 8 v refl) (text-labelled (space ∷ []) 3 n refl)))
+    (text_joined 13 13 4 4 (text "RT R " ++ digits 8 k.raw) _ (text-labelled (text "RT R ") 8 k.raw refl) (text-labelled (space ∷ []) 3 k.number refl)))

@@ -1,5 +1,5 @@
 -- A reply's text in the lent part of the reply buffer.
-use Rattle.std.specs.Prelude.{ℕ, List, ◌∷◌, ◌++◌, leb, length}
+use Rattle.std.specs.Prelude.{ℕ, Option, Some, None, List, ◌∷◌, ◌++◌, leb, length}
 use Rattle.state.specs.declared.Record.{Record}
 use Rattle.base.specs.Test.{unless}
 use Rattle.state.specs.Field.{address, get}
@@ -9,7 +9,6 @@ use Rattle.command.specs.Commands.{batch_shown}
 use Rattle.command.specs.Answer.{refusal_text}
 use Rattle.command.specs.Request.{Answered, answer_text}
 use Rattle.reply.specs.declared.Kept.{Kept}
-use Rattle.reply.specs.declared.Kept.TheVariants as kept
 
 -- a word and a number in full width behind it
 abbrev pub labelled : List ℕ → ℕ → ℕ → List ℕ
@@ -31,9 +30,9 @@ unfoldable pub written_of : Answered → Record → List ℕ → ℕ × List ℕ
 written_of a r o = laid_text (text_for a r) o
 
 -- ---- what is replied to the request for a kept batch (02, L7): NO03, or "RT R VVVVVVVV NNN"
-abbrev pub kept_words : Kept → List ℕ
-kept_words kept.Nothing = refusal_text 3
-kept_words (kept.Volume v n) = batch_shown v n
+abbrev pub kept_words : Option Kept → List ℕ
+kept_words None = refusal_text 3
+kept_words (Some k) = batch_shown k.raw k.number
 
-unfoldable pub kept_text : ℕ → Kept → List ℕ
+unfoldable pub kept_text : ℕ → Option Kept → List ℕ
 kept_text a x = digits 2 a ++ kept_words x

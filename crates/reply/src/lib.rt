@@ -10,11 +10,11 @@ ghost use Rattle.command.specs.Commands.{printed};
 ghost use Rattle.command.specs.Request.{reading_as, reply_of, answer_as};
 ghost use Rattle.reply.specs.Reply.{labelled, labelled_two, laid_text, written_of, kept_text};
 
-use command::{Answer, Reading};
-use state::{DONE, ParameterKind, RUNNING, Record, SET, STOPPED, code_at, recipe_place};
+use command::{Reading, Refusal, Request};
+use state::{ParameterKind, Phase, Record, code_at, recipe_place};
 use text::{put_digits, put_word};
 
-// ---- writers
+// ---- writers, which take the place and the buffer and give the place behind what they wrote, as text's do
 
 // A word and a number.
 fn put_labelled(word: &[u8], n: u32, width: usize, at: usize, out: &mut [u8]) -> usize
@@ -48,17 +48,14 @@ fn put_two(
 fn bit(weight: u8, on: bool) -> u8
     ensures { (result ≡ weight * flag_number on) × (result ≤ weight) }
 {
-    if on {
-        return weight;
-    }
-    0
+    if on { weight } else { 0 }
 }
 
 // A status character of four signs.
 fn character(eight: bool, four: bool, two: bool, one: bool) -> u8
     ensures { result ≡ 0x30 + (8 * flag_number eight + (4 * flag_number four + (2 * flag_number two + 1 * flag_number one))) }
 {
-    0x30 + bit(8, eight) + bit(4, four) + bit(2, two) + bit(1, one)
+    b'0' + bit(8, eight) + bit(4, four) + bit(2, two) + bit(1, one)
 }
 
 // EQ: six status characters.
@@ -66,11 +63,10 @@ fn put_status(r: Record, at: usize, out: &mut [u8]) -> usize
     requires { at + 6 ≤ length out.old }
     ensures { (result ≡ at + length (status_characters r)) × (out.new ≡ over_at at (status_characters r) out.old) }
 {
-    let phase = r.phase;
-    let p = state::phase_number(phase);
-    let begun = (p == RUNNING) | (p == STOPPED);
-    let first = character(r.keypad, p == RUNNING, r.flow, (p == SET) | begun);
-    let second = character(begun, p == DONE, r.reset, false);
+    let running = r.phase == Phase::Running;
+    let begun = running | (r.phase == Phase::Stopped);
+    let first = character(r.keypad, running, r.flow, (r.phase == Phase::Set) | begun);
+    let second = character(begun, r.phase == Phase::Done, r.reset, false);
     let third = character(false, false, false, r.alarms != 0);
     let fourth = character(r.changed, false, false, r.powerfail);
     put_word(&[first, second, third, fourth, b'0', b'0'], at, out)
@@ -80,7 +76,7 @@ fn put_status(r: Record, at: usize, out: &mut [u8]) -> usize
 fn alarm_character(alarms: u32) -> u8
     ensures { result ≡ 0x30 + alarms % 16 }
 {
-    0x30 + (alarms % 16) as u8
+    b'0' + (alarms % 16) as u8
 }
 
 // EA: five characters, four alarms in each but the last, which has three.
@@ -102,10 +98,7 @@ fn put_if(on: bool, word: &[u8], at: usize, out: &mut [u8]) -> usize
     ensures value { (result ≡ at + length (pick on word.now [])) × (out.new ≡ over_at at (pick on word.now []) out.old) }
     ensures upper_bound { result ≤ at + length word.now }
 {
-    if on {
-        return put_word(word, at, out);
-    }
-    at
+    if on { put_word(word, at, out) } else { at }
 }
 
 // RS: each status code that is on, and a space.
@@ -113,17 +106,16 @@ fn put_codes(r: Record, at: usize, out: &mut [u8]) -> usize
     requires { at + 27 ≤ length out.old }
     ensures { (result ≡ at + length (codes_on status_codes r)) × (out.new ≡ over_at at (codes_on status_codes r) out.old) }
 {
-    let phase = r.phase;
-    let p = state::phase_number(phase);
+    let running = r.phase == Phase::Running;
     let alarm = put_if(r.alarms != 0, b"AL ", at, out);
     let flow = put_if(r.flow, b"FL ", alarm, out);
     let reset = put_if(r.reset, b"BD ", flow, out);
     let changed = put_if(r.changed, b"PC ", reset, out);
     let power = put_if(r.powerfail, b"PF ", changed, out);
     let keypad = put_if(r.keypad, b"PW ", power, out);
-    let done = put_if(p == DONE, b"TD ", keypad, out);
-    let begun = put_if((p == RUNNING) | (p == STOPPED), b"TP ", done, out);
-    put_if(p == RUNNING, b"RL ", begun, out)
+    let done = put_if(r.phase == Phase::Done, b"TD ", keypad, out);
+    let begun = put_if(running | (r.phase == Phase::Stopped), b"TP ", done, out);
+    put_if(running, b"RL ", begun, out)
 }
 
 // What a request is shown.
@@ -163,33 +155,31 @@ fn put_shown(r: Record, reading: Reading, at: usize, out: &mut [u8]) -> usize
     }
 }
 
-// Writes a reply's text to the start of out, and gives its length; nothing, where out has no room for a text.
-pub fn write(r: Record, answer: Answer, out: &mut [u8]) -> usize
-    ensures { (result, out.new) ≡ written_of (answer_as answer) r out.old }
+// Writes the reply to what was served to the start of out, and gives its length; nothing, where out has no room for a text.
+pub fn write(r: Record, served: Result<Request, Refusal>, out: &mut [u8]) -> usize
+    ensures { (result, out.new) ≡ written_of (answer_as served) r out.old }
 {
     if out.len() < 60 {
         return 0;
     }
     let behind = put_digits(r.address as u64, 2, 0, out);
-    match answer {
-        Answer::No(refusal) => put_labelled(b"NO", command::number_of(refusal), 2, behind, out),
-        Answer::Shows(reading) => put_shown(r, reading, behind, out),
-        Answer::Ok => put_word(b"OK", behind, out),
+    match served {
+        Err(refusal) => put_labelled(b"NO", u32::from(refusal), 2, behind, out),
+        Ok(Request::Read(reading)) => put_shown(r, reading, behind, out),
+        Ok(Request::Write(_)) => put_word(b"OK", behind, out),
     }
 }
 
-// What is replied to the request for a kept batch.
+// A kept batch: its raw volume, and its number.
 #[derive(Clone, Copy)]
-pub enum Kept {
-    // NO03
-    Nothing,
-    // Its raw volume, and its number.
-    Volume(u32, u32),
+pub struct Kept {
+    pub raw: u32,
+    pub number: u32,
 }
 
-// Writes the text of that to the start of out, from the unit with this address, and gives its length; nothing, where out has no room for a
-// text. The record is not looked at.
-pub fn write_kept(address: u8, kept: Kept, out: &mut [u8]) -> usize
+// Writes the reply to the request for a kept batch, NO03 if there is none, to the start of out, from the unit with this address, and gives
+// its length; nothing, where out has no room for a text. The record is not looked at.
+pub fn write_kept(address: u8, kept: Option<Kept>, out: &mut [u8]) -> usize
     ensures { (result, out.new) ≡ laid_text (kept_text address kept) out.old }
 {
     if out.len() < 60 {
@@ -197,7 +187,7 @@ pub fn write_kept(address: u8, kept: Kept, out: &mut [u8]) -> usize
     }
     let behind = put_digits(address as u64, 2, 0, out);
     match kept {
-        Kept::Nothing => put_word(b"NO03", behind, out),
-        Kept::Volume(raw, n) => put_two(b"RT R ", raw, 8, n, 3, behind, out),
+        None => put_word(b"NO03", behind, out),
+        Some(batch) => put_two(b"RT R ", batch.raw, 8, batch.number, 3, behind, out),
     }
 }

@@ -4,41 +4,42 @@ use mathlib.Core.Bool.{Bool, not, true, false}
 use mathlib.Core.Path.{◌≡◌, refl, sym, ap, subst, ◌∙◌}
 use mathlib.Core.List.{List, [], ◌∷◌}
 use native.Mathlib.Omega.{arith}
-use lib.Dec.{eqb}
-use lib.ListN.{length, drop, get_or, length-drop, drop_of_length-le}
-use lib.Seq.{drop-drop, get_or-drop}
-use borrow.Author.Tests.{eq-eqb, ne_eqb, eqb-true}
+use lib.Dec.{eqb, ltb}
+use lib.ListN.{length, take, drop, get_or, length-drop, drop_of_length-le}
+use lib.Seq.{take_all, drop-drop, get_or-drop}
+use borrow.Author.Tests.{ltb-false, eqb-true}
 use Rattle.base.specs.Test.{pick, unless}
 use Rattle.base.proofs.Lists.{next}
 use Rattle.frame.specs.Frame.{stx, etx, is_text}
-use Rattle.several.specs.declared.Found.TheVariants.{Frame, Stop}
+use Rattle.several.specs.declared.Frame.{Frame}
+use Rattle.std.specs.Prelude.{Result, Ok, Err}
+use Rattle.std.specs.Option.{unwrap_or}
+use Rattle.std.specs.List.{position, position_or_len}
+use Rattle.base.proofs.Tests.{by_test}
 use Rattle.several.specs.Several.{Place, passed, undecided, whole, searched, place_of}
 use Rattle.several.specs.Answers.{start_from, found_at, found_from}
 use Rattle.several.proofs.Places.{Searching, search_begun, place_open, place_short, place-whole, place_byte, place_long}
 
--- ---- the walk to the next STX
-pub record Skipping (s : List ℕ) (f p : ℕ) : Type 0 where
-  pub inside : p ≤ length s
-  pub all : start_from f (drop f s) ≡ start_from p (drop p s)
+-- ---- the place of the next STX
+start-len : (p : ℕ) (xs : List ℕ) → start_from p xs ≡ p + position_or_len (λ x. eqb x stx) xs
+unfolding start_from
+start-len p [] = omega arith
+start-len p (x ∷ xs) = by_test (eqb x stx) (λ h. simp h (omega arith)) (λ h. simp h (omega (arith, start-len (p + 1) xs)))
 
-pub skip_begun : (s : List ℕ) (f : ℕ) → f ≤ length s → Skipping s f f
-skip_begun s f h = record { inside = h; all = refl }
+start-fits : (xs : List ℕ) → position_or_len (λ x. eqb x stx) xs ≤ length xs
+start-fits [] = omega arith
+start-fits (x ∷ xs) = by_test (eqb x stx) (λ h. simp h (omega arith)) (λ h. simp h (omega (arith, start-fits xs)))
 
-module _ {s : List ℕ} {f p : ℕ} (k : Skipping s f p) where
-  pub skip-end : length s ≤ p → p ≡ start_from f (drop f s)
-  unfolding start_from
-  skip-end h = sym (k.all ∙ ap (start_from p) (drop_of_length-le s h))
+start-position : (p : ℕ) (xs : List ℕ) → start_from p xs ≡ p + unwrap_or (position (λ x. eqb x stx) xs) (length xs)
+start-position p xs =
+    start-len p xs
+    ∙ by_test (ltb (position_or_len (λ x. eqb x stx) xs) (length xs)) (λ h. simp h)
+    (λ h. simp h (omega (arith, start-fits xs, ltb-false (position_or_len (λ x. eqb x stx) xs) (length xs) h)))
 
-  module _ (h : p < length s) where
-    at_start : start_from f (drop f s) ≡ pick (eqb (get_or s p 0) stx) p (start_from (p + 1) (drop (p + 1) s))
-    unfolding start_from
-    at_start = k.all ∙ ap (start_from p) (next s p h)
-
-    pub skip_found : get_or s p 0 ≡ stx → p ≡ start_from f (drop f s)
-    skip_found e = sym (at_start ∙ simp (eq-eqb (get_or s p 0) stx e))
-
-    pub skip_turn : (get_or s p 0 ≡ stx → ⊥) → Skipping s f (p + 1)
-    skip_turn e = record { inside = omega arith; all = at_start ∙ simp (ne_eqb (get_or s p 0) stx e) }
+pub start_form : (s : List ℕ) (p : ℕ)
+    → start_from p (drop p s)
+    ≡ p + unwrap_or (position (λ x. eqb x stx) (take (length s - p) (drop p s))) (length (take (length s - p) (drop p s)))
+start_form s p = simp (take_all (length s - p) (drop p s) (omega (arith, length-drop p s))) (start-position p (drop p s))
 
 -- what stands before it is passed
 record Started (l : List ℕ) (p n : ℕ) : Type 0 where
@@ -82,7 +83,7 @@ module _ {s : List ℕ} {f q : ℕ} (k₀ : Seeking s f q) (n : ℕ) (e : n ≡ 
   k : Seeking s f n
   k = record { inside = omega (arith, to.place, to.fits, length-drop q s, k₀.inside); all = k₀.all ∙ (to.same ∙ ap (found_from n) there) }
 
-  pub seek_end : length s ≤ n → Stop n ≡ found_from f (drop f s)
+  pub seek_end : length s ≤ n → Err n ≡ found_from f (drop f s)
   unfolding found_from
   seek_end h = sym (k.all ∙ ap (found_from n) (drop_of_length-le s h))
 
@@ -107,7 +108,7 @@ module _ {s : List ℕ} {f q : ℕ} (k₀ : Seeking s f q) (n : ℕ) (e : n ≡ 
     broken : place_of (get_or s p 0) (drop (p + 1) s) ≡ passed → Seeking s f (p + 1)
     broken z = record { inside = omega (arith, within); all = by_place passed z }
 
-    pub seek_open : length s ≤ i → Stop p ≡ found_from f (drop f s)
+    pub seek_open : length s ≤ i → Err p ≡ found_from f (drop f s)
     seek_open h = sym (by_place undecided (place_open g h))
 
     module _ (h : i < length s) where
@@ -117,10 +118,10 @@ module _ {s : List ℕ} {f q : ℕ} (k₀ : Seeking s f q) (n : ℕ) (e : n ≡ 
       pub seek_long : (b : Bool) → b ≡ is_text (get_or s i 0) → not b ≡ false → 60 < i - p → Seeking s f (p + 1)
       seek_long b t x l = broken (place_long g h b t x l)
 
-      pub seek_short : get_or s i 0 ≡ etx → length s - i < 3 → Stop p ≡ found_from f (drop f s)
+      pub seek_short : get_or s i 0 ≡ etx → length s - i < 3 → Err p ≡ found_from f (drop f s)
       seek_short z l = sym (by_place undecided (place_short g h z l))
 
-      pub seek_frame : get_or s i 0 ≡ etx → 3 ≤ length s - i → Frame p (i + 3) ≡ found_from f (drop f s)
+      pub seek_frame : get_or s i 0 ≡ etx → 3 ≤ length s - i → Ok (record { start = p; end = i + 3 }) ≡ found_from f (drop f s)
       seek_frame z l =
           let j : p + (i + 3 - p) ≡ i + 3 = omega (arith, g.behind) in
-          sym (by_place (whole (i + 3 - p)) (place-whole g h z l) ∙ ap (Frame p) j)
+          sym (by_place (whole (i + 3 - p)) (place-whole g h z l) ∙ ap (λ (e : ℕ). let x : Result Frame ℕ = Ok (record { start = p; end = e }) in x) j)

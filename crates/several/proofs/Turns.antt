@@ -9,12 +9,11 @@ use lib.ListN.{length, take, drop, length-drop, length-take}
 use lib.Seq.{drop-drop}
 use Rattle.frame.specs.declared.Kind.TheVariants.{Minicomputer}
 use Rattle.frame.proofs.Laws.{found_sizes}
-use Rattle.several.specs.declared.Due.{Due}
-use Rattle.several.specs.declared.Due.TheVariants.{Refused, OtherUnit, NoRoom, Answered}
-use Rattle.several.specs.declared.Found.{Found}
-use Rattle.several.specs.declared.Found.TheVariants.{Frame, Stop}
+use Rattle.several.specs.declared.NotDue.{NotDue}
+use Rattle.several.specs.declared.NotDue.TheVariants.{Refused, OtherUnit, NoRoom}
+use Rattle.several.specs.declared.Frame.{Frame}
 use Rattle.several.specs.declared.Turn.{Turn}
-use Rattle.several.specs.declared.Turn.TheVariants as turn
+use Rattle.std.specs.Prelude.{Result, Ok, Err}
 use Rattle.several.specs.Several.{Place, passed, undecided, whole, place_of}
 use Rattle.several.specs.Answers.{found_at, found_from, due_of, turn_by, turn_at, turn_from}
 use Rattle.several.proofs.Joined.{behind}
@@ -33,11 +32,11 @@ module _ (d room : ℕ) where
 
   module _ (s : List ℕ) where
     -- the turn from p on
-    abbrev next : ℕ → Turn
+    abbrev next : ℕ → Result Turn ℕ
     next p = turn_from d room 0 p (drop p s)
 
     -- ... at a frame from p to e, by what is due to it
-    abbrev by_due : ℕ → ℕ → Due → Turn
+    abbrev by_due : ℕ → ℕ → Result ℕ NotDue → Result Turn ℕ
     by_due p e g = turn_by g p (e - p) (λ k. turn_from d room k (p + 1) (drop (p + 1) s))
 
     -- ---- what the next frame tells of it
@@ -47,14 +46,14 @@ module _ (d room : ℕ) where
       fits : e ≤ length s
       all : next p ≡ by_due p' e (due_of d room (take (e - p') (drop p' s)))
 
-    abbrev Tells : ℕ → Found → Type 0
-    Tells p (Stop p') = next p ≡ turn.Stop p'
-    Tells p (Frame p' e) = Leads p p' e
+    abbrev Tells : ℕ → Result Frame ℕ → Type 0
+    Tells p (Err p') = next p ≡ Err p'
+    Tells p (Ok f) = Leads p f.start f.end
 
     -- a byte more
-    one_more : (p : ℕ) → next p ≡ next (p + 1) → (y : Found) → Tells (p + 1) y → Tells p y
-    one_more p e (Stop p') t = e ∙ t
-    one_more p e (Frame p' x) t = record { order = omega (arith, t.order); least = t.least; fits = t.fits; all = e ∙ t.all }
+    one_more : (p : ℕ) → next p ≡ next (p + 1) → (y : Result Frame ℕ) → Tells (p + 1) y → Tells p y
+    one_more p e (Err p') t = e ∙ t
+    one_more p e (Ok f) t = record { order = omega (arith, t.order); least = t.least; fits = t.fits; all = e ∙ t.all }
 
     tells : (l : List ℕ) (p : ℕ) → drop p s ≡ l → Tells p (found_from p l)
     unfolding found_from turn_from
@@ -82,7 +81,7 @@ module _ (d room : ℕ) where
                   ∙ ap (λ (v : List ℕ). turn_by (due_of d room (take (p + n - p) (drop p s))) p (p + n - p) (λ k. turn_from d room k (p + 1) v)) (sym (behind s p x xs e))));
             }
 
-    told : (p : ℕ) (x y : Found) → x ≡ found_from p (drop p s) → x ≡ y → Tells p y
+    told : (p : ℕ) (x y : Result Frame ℕ) → x ≡ found_from p (drop p s) → x ≡ y → Tells p y
     told p x y e z = subst (Tells p) (sym e ∙ z) (tells (drop p s) p refl)
 
 -- ---- nothing between f and p is due
@@ -93,13 +92,19 @@ pub record Turning (d room : ℕ) (s : List ℕ) (f p : ℕ) : Type 0 where
 pub turn_begun : (d room : ℕ) (s : List ℕ) (f : ℕ) → f ≤ length s → Turning d room s f f
 turn_begun d room s f h = record { inside = h; all = refl }
 
-module _ {d room : ℕ} {s : List ℕ} {f t : ℕ} (w : Turning d room s f t) (x : Found) (found : x ≡ found_from t (drop t s)) where
-  pub turn_stop : (p : ℕ) → x ≡ Stop p → turn.Stop p ≡ turn_from d room 0 f (drop f s)
-  turn_stop p y = sym (w.all ∙ told d room s t x (Stop p) found y)
+module _ {d room : ℕ} {s : List ℕ} {f t : ℕ} (w : Turning d room s f t) where
+  pub turn_stop : (p : ℕ) → Err p ≡ found_from t (drop t s) → Err p ≡ turn_from d room 0 f (drop f s)
+  turn_stop p y = sym (w.all ∙ told d room s t (Err p) (Err p) y refl)
 
-  module _ (p e : ℕ) (y : x ≡ Frame p e) where
+  module _ (x : Frame) (found : Ok x ≡ found_from t (drop t s)) where
+    abbrev p : ℕ
+    p = x.start
+
+    abbrev e : ℕ
+    e = x.end
+
     it : Leads d room s t p e
-    it = told d room s t x (Frame p e) found y
+    it = told d room s t (Ok x) (Ok x) found refl
 
     pub frame-order : p ≤ e
     frame-order = omega (arith, it.least)
@@ -120,31 +125,34 @@ module _ {d room : ℕ} {s : List ℕ} {f t : ℕ} (w : Turning d room s f t) (x
     nearer_end = omega (arith, it.order, it.least, it.fits)
 
     -- what is due to it
-    module _ (g : Due) (h : g ≡ due_of d room (take (e - p) (drop p s))) where
-      so : (v : Due) → g ≡ v → turn_from d room 0 f (drop f s) ≡ by_due d room s p e v
-      so v i = w.all ∙ (it.all ∙ ap (by_due d room s p e) (sym h ∙ i))
+    module _ where
+      abbrev due : Result ℕ NotDue
+      due = due_of d room (take (e - p) (drop p s))
 
-      pub turn_on : g ≡ Refused → Turning d room s f (p + 1)
-      turn_on i = record { inside = omega (arith, frame_start); all = so Refused i }
+      so : (v : Result ℕ NotDue) → v ≡ due → turn_from d room 0 f (drop f s) ≡ by_due d room s p e v
+      so v i = w.all ∙ (it.all ∙ ap (by_due d room s p e) (sym i))
 
-      pub turn_other : g ≡ OtherUnit → Turning d room s f e
+      pub turn_on : Err Refused ≡ due → Turning d room s f (p + 1)
+      turn_on i = record { inside = omega (arith, frame_start); all = so (Err Refused) i }
+
+      pub turn_other : Err OtherUnit ≡ due → Turning d room s f e
       turn_other i =
           let j : p + 1 + (e - p - 1) ≡ e = omega (arith, it.least) in
           record {
             inside = frame_inside;
             all =
-                so OtherUnit i ∙ (turn_pass d room (e - p - 1) (p + 1) (drop (p + 1) s) (simp length-drop (omega (arith, it.fits)))
+                so (Err OtherUnit) i ∙ (turn_pass d room (e - p - 1) (p + 1) (drop (p + 1) s) (simp length-drop (omega (arith, it.fits)))
                 ∙ (ap (turn_from d room 0 (p + 1 + (e - p - 1))) (drop-drop (e - p - 1) (p + 1) s)
                 ∙ ap (λ (n : ℕ). turn_from d room 0 n (drop n s)) j));
           }
 
-      pub turn_room : g ≡ NoRoom → turn.Stop p ≡ turn_from d room 0 f (drop f s)
-      turn_room i = sym (so NoRoom i)
+      pub turn_room : Err NoRoom ≡ due → Err p ≡ turn_from d room 0 f (drop f s)
+      turn_room i = sym (so (Err NoRoom) i)
 
-      module _ (m : ℕ) (i : g ≡ Answered m) where
+      module _ (m : ℕ) (i : Ok m ≡ due) where
         pub text_inside : p + 1 + m ≤ length s
         text_inside =
-            let named = (for_answered d room (take (e - p) (drop p s)) m (sym h ∙ i)).0 in
+            let named = (for_answered d room (take (e - p) (drop p s)) m (sym i)).0 in
             let sizes = found_sizes Minicomputer (take (e - p) (drop p s)) m named.text in
             let l : length (take (e - p) (drop p s)) ≤ e - p = simp length-take (omega arith) in
             omega (arith, sizes.room, it.fits, it.least)
@@ -152,9 +160,9 @@ module _ {d room : ℕ} {s : List ℕ} {f t : ℕ} (w : Turning d room s f t) (x
         pub text-fits : length s < 2 ^ 64 → p + 1 + m < 2 ^ 64
         text-fits l = omega (arith, text_inside)
 
-        pub turn_answer : turn.Answer (p + 1) (p + 1 + m) e ≡ turn_from d room 0 f (drop f s)
+        pub turn_answer : Ok (record { text = p + 1; text_end = p + 1 + m; end = e }) ≡ turn_from d room 0 f (drop f s)
         turn_answer =
             let j : p + (e - p) ≡ e = omega (arith, it.least) in
-            sym (so (Answered m) i ∙ ap (turn.Answer (p + 1) (p + 1 + m)) j)
+            sym (so (Ok m) i ∙ ap (λ (x : ℕ). let y : Result Turn ℕ = Ok (record { text = p + 1; text_end = p + 1 + m; end = x }) in y) j)
 
 pub ruleset frame-places = (frame-order, frame_inside, frame_start)

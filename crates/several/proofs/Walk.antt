@@ -16,13 +16,15 @@ use Rattle.base.proofs.Lists.{over-length, over-take, over-rest, over-append}
 use Rattle.frame.specs.declared.Kind.TheVariants.{Minicomputer}
 use Rattle.frame.specs.Frame.{text_in}
 use Rattle.frame.proofs.Laws.{Sizes, found_sizes, found_text, Named}
-use Rattle.controller.specs.declared.Answer as controller
+use Rattle.frame.specs.declared.Silence.{Silence}
+use Rattle.std.specs.Prelude.{Option, Some, None, Result, Ok, Err}
+use Rattle.std.specs.Result.{result_unwrap_or}
+use Rattle.command.specs.declared.Writing.{Writing}
 use Rattle.controller.specs.Call.{OutcomeOf, answer_length, outcome_as, reply_in}
-use Rattle.several.specs.declared.Due.{Due}
-use Rattle.several.specs.declared.Due.TheVariants.{Refused, OtherUnit, NoRoom, Answered}
+use Rattle.several.specs.declared.NotDue.{NotDue}
+use Rattle.several.specs.declared.NotDue.TheVariants.{Refused, OtherUnit, NoRoom}
 use Rattle.several.specs.declared.Turn.{Turn}
-use Rattle.several.specs.declared.Turn.TheVariants as turn
-use Rattle.several.specs.declared.Answer.{Answer}
+use Rattle.several.specs.declared.Report.{Report}
 use Rattle.several.specs.Several.{Place, passed, undecided, whole, place_of, Step, full, silent, answer, Heard, nothing, taking, answering, ◌then◌, step_of, follow, heard_from, report_of, several_by}
 use Rattle.several.specs.Answers.{several_as, served_as, due_of, turn_by, turn_at, turn_from}
 use Rattle.several.proofs.Joined.{made, made_same, nothing_then, taking_more, onward, onward_to, behind}
@@ -56,19 +58,19 @@ module _ {S : Type 0} {called : S → List ℕ → OutcomeOf S} {good : S → Bo
           let c : OutcomeOf S = called r (take n (drop p' s)) in
           h ≡ taking (p' - p) r then (answering (reply_in c) c.after then (taking n c.after then heard_from called 0 (room - c.reported) c.after (drop (p' + n) s)))
 
-    abbrev Tells : ℕ → Turn → Heard S → Type 0
-    Tells p (turn.Stop p') h = Ends p p' h
-    Tells p (turn.Answer t e x) h = Answers p t e x h
+    abbrev Tells : ℕ → Result Turn ℕ → Heard S → Type 0
+    Tells p (Err p') h = Ends p p' h
+    Tells p (Ok y) h = Answers p y.text y.text_end y.end h
 
     -- a byte more
-    one_more : (p : ℕ) (y : Turn) (h : Heard S) → Tells (p + 1) y h → Tells p y (taking 1 r then h)
-    one_more p (turn.Stop p') h t =
+    one_more : (p : ℕ) (y : Result Turn ℕ) (h : Heard S) → Tells (p + 1) y h → Tells p y (taking 1 r then h)
+    one_more p (Err p') h t =
         record {
           order = omega (arith, t.order);
           inside = t.inside;
           all = ap (λ (g : Heard S). taking 1 r then g) t.all ∙ made_same _ _ _ _ _ _ r (omega (arith, t.order)) refl refl;
         }
-    one_more p (turn.Answer a e x) h t =
+    one_more p (Ok y) h t =
         record {
           p' = t.p';
           n = t.n;
@@ -94,7 +96,7 @@ module _ {S : Type 0} {called : S → List ℕ → OutcomeOf S} {good : S → Bo
       there = sym (ap length e) ∙ length-drop p s
 
       -- a frame of n bytes that is answered
-      answers : (n m : ℕ) → place_of x xs ≡ whole n → due_of (address r) room (take n (x ∷ xs)) ≡ Answered m
+      answers : (n m : ℕ) → place_of x xs ≡ whole n → due_of (address r) room (take n (x ∷ xs)) ≡ Ok m
           → Answers p (p + 1) (p + 1 + m) (p + n) (follow (answer n (called r (take n (x ∷ xs)))) room r (onward called xs))
       answers n m f g =
           let w = whole-told x xs n f in
@@ -124,23 +126,23 @@ module _ {S : Type 0} {called : S → List ℕ → OutcomeOf S} {good : S → Bo
           }
 
       -- by the step that is made
-      by_step : (n : ℕ) (y : Step S) (z : Turn) → step_of called (whole n) (x ∷ xs) room r ≡ y → Tells p z (follow y room r (onward called xs))
+      by_step : (n : ℕ) (y : Step S) (z : Result Turn ℕ) → step_of called (whole n) (x ∷ xs) room r ≡ y → Tells p z (follow y room r (onward called xs))
           → Tells p z (follow (step_of called (whole n) (x ∷ xs) room r) room r (onward called xs))
       by_step n y z j t = subst (λ (w : Step S). Tells p z (follow w room r (onward called xs))) (sym j) t
 
-      by_due : (n : ℕ) → place_of x xs ≡ whole n → (g : Due) → due_of (address r) room (take n (x ∷ xs)) ≡ g
+      by_due : (n : ℕ) → place_of x xs ≡ whole n → (g : Result ℕ NotDue) → due_of (address r) room (take n (x ∷ xs)) ≡ g
           → ((k : ℕ) → k ≤ length xs → Tells (p + 1) (turn_from (address r) room k (p + 1) xs) (heard_from called k room r xs))
           → Tells p (turn_by g p n (λ k. turn_from (address r) room k (p + 1) xs)) (follow (step_of called (whole n) (x ∷ xs) room r) room r (onward called xs))
-      by_due n f Refused i on =
+      by_due n f (Err Refused) i on =
           by_step n (silent n 0) (turn_from (address r) room 0 (p + 1) xs) (step_refused laws r (take n (x ∷ xs)) v n room i)
           (one_more p (turn_from (address r) room 0 (p + 1) xs) (heard_from called 0 room r xs) (on 0 (omega arith)))
-      by_due n f OtherUnit i on =
+      by_due n f (Err OtherUnit) i on =
           let w = whole-told x xs n f in
           by_step n (silent n (n - 1)) (turn_from (address r) room (n - 1) (p + 1) xs) (step_other laws r (take n (x ∷ xs)) v n room i)
           (one_more p (turn_from (address r) room (n - 1) (p + 1) xs) (heard_from called (n - 1) room r xs) (on (n - 1) (omega (arith, w.fits))))
-      by_due n f NoRoom i on = by_step n (full n) (turn.Stop p) (step_full laws r (take n (x ∷ xs)) v n room i) (stops p (nothing r) (omega (arith, there)) refl)
-      by_due n f (Answered m) i on =
-          by_step n (answer n (called r (take n (x ∷ xs)))) (turn.Answer (p + 1) (p + 1 + m) (p + n)) (step_answer laws r (take n (x ∷ xs)) v n room m i) (answers n m f i)
+      by_due n f (Err NoRoom) i on = by_step n (full n) (Err p) (step_full laws r (take n (x ∷ xs)) v n room i) (stops p (nothing r) (omega (arith, there)) refl)
+      by_due n f (Ok m) i on =
+          by_step n (answer n (called r (take n (x ∷ xs)))) (Ok (record { text = p + 1; text_end = p + 1 + m; end = p + n })) (step_answer laws r (take n (x ∷ xs)) v n room m i) (answers n m f i)
 
     tells : (l : List ℕ) (p k : ℕ) → p ≤ length s → drop p s ≡ l → k ≤ length l → Tells p (turn_from (address r) room k p l) (heard_from called k room r l)
     unfolding turn_from heard_from
@@ -157,9 +159,9 @@ module _ {S : Type 0} {called : S → List ℕ → OutcomeOf S} {good : S → Bo
         here (whole n) f on = by_due p x xs e n f (due_of (address r) room (take n (x ∷ xs))) refl on
 
     -- the turn that the walk takes
-    told : (p : ℕ) → p ≤ length s → (d n : ℕ) → address r ≡ d → n ≡ room → (x y : Turn) → x ≡ turn_from d n 0 p (drop p s) → x ≡ y → Tells p y (heard_from called 0 room r (drop p s))
+    told : (p : ℕ) → p ≤ length s → (d n : ℕ) → address r ≡ d → n ≡ room → (x y : Result Turn ℕ) → x ≡ turn_from d n 0 p (drop p s) → x ≡ y → Tells p y (heard_from called 0 room r (drop p s))
     told p h d n e f x y z i =
-        subst (λ (w : Turn). Tells p w (heard_from called 0 room r (drop p s)))
+        subst (λ (w : Result Turn ℕ). Tells p w (heard_from called 0 room r (drop p s)))
         (ap (λ (j : ℕ). turn_from j room 0 p (drop p s)) e ∙ (ap (λ (j : ℕ). turn_from d j 0 p (drop p s)) (sym f) ∙ (sym z ∙ i)))
         (tells (drop p s) p 0 h refl (omega arith))
 
@@ -219,29 +221,43 @@ module _ {S : Type 0} (called : S → List ℕ → OutcomeOf S) (good : S → Bo
   unfolding several_by over
   walk_refused s o r b e n = simp (sym e ∙ not-true b n)
 
+-- the length that is reported, 0 for a silence
+reported_so : (x : Result ℕ Silence) → result_unwrap_or x 0 ≡ answer_length x
+reported_so (Err s) = refl
+reported_so (Ok n) = refl
+
 -- ---- by what the next turn is
 module _ {S : Type 0} {called : S → List ℕ → OutcomeOf S} {good : S → Bool} {address : S → ℕ} (laws : Serving called good address)
     {s o₀ : List ℕ} {r₀ : S} {o : List ℕ} {p a u : ℕ} {r : S} (w : Walking called good address s o₀ r₀ o p a u r)
-    (y : Turn) (due : y ≡ turn_from (address r₀) (length o - u) 0 p (drop p s)) where
-  tells_here : (z : Turn) → y ≡ z → Tells laws s (length o₀ - u) r w.sound p z (heard_from called 0 (length o₀ - u) r (drop p s))
-  tells_here z i = told laws s (length o₀ - u) r w.sound p w.inside (address r₀) (length o - u) w.unit (ap (λ (n : ℕ). n - u) w.same) y z due i
+    (d : ℕ) (for_unit : d ≡ address r₀) (y : Result Turn ℕ) (due : y ≡ turn_from d (length o - u) 0 p (drop p s)) where
+  tells_here : (z : Result Turn ℕ) → y ≡ z → Tells laws s (length o₀ - u) r w.sound p z (heard_from called 0 (length o₀ - u) r (drop p s))
+  tells_here z i = told laws s (length o₀ - u) r w.sound p w.inside d (length o - u) (w.unit ∙ sym for_unit) (ap (λ (n : ℕ). n - u) w.same) y z due i
 
   -- the way out
-  pub walk_stop : (p' : ℕ) (x : Answer) → y ≡ turn.Stop p' → x ≡ served_as p' a u → several_as x r o ≡ several_by called good r₀ s o₀
+  pub walk_stop : (p' : ℕ) (x : Result Report Silence) → y ≡ Err p' → x ≡ served_as p' a u → several_as x r o ≡ several_by called good r₀ s o₀
   unfolding several_by
   walk_stop p' x i z =
-      let t = tells_here (turn.Stop p') i in
+      let t = tells_here (Err p') i in
       let d : List ℕ = w.done in
       let h : heard_from called 0 (length o₀) r₀ s ≡ made p' a d r =
       w.all ∙ (ap (λ (g : Heard S). made p a d r then g) t.all ∙ made_same _ _ _ _ _ _ r (omega (arith, t.order)) (omega arith) (append-nil d)) in
-      ap (λ (b : Answer). several_as b r o) z
+      ap (λ (b : Result Report Silence). several_as b r o) z
       ∙ sym (ap (λ (b : Bool). unless b (report_of 1 (nothing r₀) o₀) (report_of 0 (heard_from called 0 (length o₀) r₀ s) o₀)) w.first
       ∙ (ap (λ (g : Heard S). report_of 0 g o₀) h ∙ simp (w.size, sym w.laid)))
 
   -- the way on: a frame that ends at e, with its text from t to t'
-  module _ (t t' e : ℕ) (i : y ≡ turn.Answer t t' e) where
+  module _ (turn : Turn) (i : y ≡ Ok turn) where
+    abbrev t : ℕ
+    t = turn.text
+
+    abbrev t' : ℕ
+    t' = turn.text_end
+
+    abbrev e : ℕ
+    e = turn.end
+
     it : Answers laws s (length o₀ - u) r w.sound p t t' e (heard_from called 0 (length o₀ - u) r (drop p s))
-    it = tells_here (turn.Answer t t' e) i
+    it = tells_here (Ok turn) i
 
     abbrev q : List ℕ
     q = take it.n (drop it.p' s)
@@ -274,8 +290,8 @@ module _ {S : Type 0} {called : S → List ℕ → OutcomeOf S} {good : S → Bo
         ∙ found_text Minicomputer q it.m it.unit.text)))
 
     -- the reply is laid into the rest of the buffer
-    module _ {reply : S → List ℕ → List ℕ → OutcomeOf S} (replies : Replying called reply) (x : controller.Answer) (r' : S) (ys : List ℕ)
-        (z : outcome_as x r' ys ≡ reply r (take (t' - t) (drop t s)) (take (length o - u) (drop u o))) (n : ℕ) (length-is : n ≡ answer_length x) where
+    module _ {reply : S → List ℕ → List ℕ → OutcomeOf S} (replies : Replying called reply) (x : Result ℕ Silence) (r' : S) (ys : List ℕ)
+        (z : outcome_as x r' ys ≡ reply r (take (t' - t) (drop t s)) (take (length o - u) (drop u o))) (n : ℕ) (length_is : n ≡ result_unwrap_or x 0) where
       abbrev c : OutcomeOf S
       c = called r q
 
@@ -288,7 +304,7 @@ module _ {S : Type 0} {called : S → List ℕ → OutcomeOf S} {good : S → Bo
           z ∙ (ap (λ (b : List ℕ). reply r b (take (length o - u) (drop u o))) text_there ∙ replies.anywhere r q (take (length o - u) (drop u o)) heard l)
 
       size : n ≡ c.reported
-      size = length-is ∙ ap (λ (b : OutcomeOf S). b.reported) made_so
+      size = length_is ∙ (reported_so x ∙ ap (λ (b : OutcomeOf S). b.reported) made_so)
 
       next : r' ≡ c.after
       next = ap (λ (b : OutcomeOf S). b.after) made_so
@@ -328,3 +344,21 @@ module _ {S : Type 0} {called : S → List ℕ → OutcomeOf S} {good : S → Bo
                 w.all ∙ (ap (λ (g : Heard S). made p a w.done r then g) (it.all ∙ ap (λ (g : Heard S). taking (it.p' - p) r then (answering v c.after then (taking it.n c.after then g))) on)
                 ∙ made_same _ _ _ _ _ _ rest.after (omega (arith, it.end, it.order)) (omega arith) (sym (append_assoc w.done v rest.replies)));
           }
+
+    -- ---- and what its effect leaves, carried out or not
+    module _ {reply : S → List ℕ → List ℕ → OutcomeOf S} (replies : Replying called reply) (changed : Option Writing → S → S) (x : Result ℕ Silence) (c : Option Writing) (ys : List ℕ)
+        (z : outcome_as x (changed c r) ys ≡ reply r (take (t' - t) (drop t s)) (take (length o - u) (drop u o))) (n : ℕ) (length_is : n ≡ result_unwrap_or x 0) where
+      abbrev On : S → Type 0
+      On = Walking called good address s o₀ r₀ (put_mid u (length o - u) o ys) e (a + 1) (u + n)
+
+      pub reply_fits : u + n < 2 ^ 64
+      reply_fits = answer-fits replies x (changed c r) ys z n length_is
+
+      onward_so : On (changed c r)
+      onward_so = walk_answered replies x (changed c r) ys z n length_is
+
+      pub walk_changed : (v : Writing) (r' : S) → c ≡ Some v → r' ≡ changed (Some v) r → On r'
+      walk_changed v r' f g = subst On (ap (λ (b : Option Writing). changed b r) f ∙ sym g) onward_so
+
+      pub walk_unchanged : ((b : S) → changed None b ≡ b) → c ≡ None → On r
+      walk_unchanged unchanged f = subst On (ap (λ (b : Option Writing). changed b r) f ∙ unchanged r) onward_so

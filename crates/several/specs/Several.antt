@@ -1,13 +1,18 @@
 -- Document 02, L4, "A buffer with several frames": what of the lent bytes is taken, what is answered, and what is left. What is held is a
 -- record, alone or with a bank beside it (L7): all here is said over any of these and a call on it, and at the end of a record.
-use Rattle.std.specs.Prelude.{ℕ, zero, suc, ◌+◌, ◌-◌, Bool, List, [], ◌∷◌, ◌++◌, eqb, leb, length, take, drop, replicate}
+use Rattle.std.specs.Prelude.{◌≡◌, refl, ℕ, zero, suc, ◌+◌, ◌-◌, ◌≤◌, Bool, true, List, [], ◌∷◌, ◌++◌, eqb, leb, length, take, drop, replicate}
 use Rattle.base.specs.Test.{pick, unless}
 use Rattle.base.specs.Lists.{over}
 use Rattle.state.specs.declared.Record.{Record}
 use Rattle.state.specs.Valid.{valid}
+use Rattle.frame.specs.declared.Kind.{Kind}
 use Rattle.frame.specs.declared.Kind.TheVariants.{Minicomputer}
+use Rattle.text.proofs.Printable.{Text}
+use Rattle.reply.proofs.Laws.{longest}
 use Rattle.frame.specs.Frame.{stx, etx, is_text}
-use Rattle.controller.specs.Call.{OutcomeOf, Outcome, reply_in, call_of}
+use Rattle.command.specs.Answer.{reply_text}
+use Rattle.controller.specs.Call.{OutcomeOf, Outcome, reply_in, address_of, call_of}
+use Rattle.controller.proofs.Theorems.{reply_legal, call_keeps_valid, address_kept}
 
 -- ---- what stands at a place: a byte that is skipped or a break; what the bytes do not decide; a frame of so many bytes
 pub data Place : Type 0 where
@@ -127,6 +132,23 @@ module _ {S : Type 0} (called : S → List ℕ → OutcomeOf S) where
   unfoldable pub several_by : (S → Bool) → S → List ℕ → List ℕ → SeveralOn S
   several_by good r s o = unless (good r) (report_of 1 (nothing r) o) (report_of 0 (heard_from 0 (length o) r s) o)
 
+-- ---- of whatever a unit holds, by its call on one frame
+module _ {S : Type 0} (called : Kind → S → List ℕ → List ℕ → OutcomeOf S) where
+  -- a frame that is handed over, with a reply buffer of its own
+  abbrev pub called_alone : S → List ℕ → OutcomeOf S
+  called_alone s q = called Minicomputer s q (replicate 64 0)
+
+  unfoldable pub several_held : (S → Bool) → S → List ℕ → List ℕ → SeveralOn S
+  several_held valid s bytes o = several_by called_alone valid s bytes o
+
+-- what the walk rests on, beside how the call is defined
+pub record SteadyLaws {S : Type 0} (valid : S → Bool) (address : S → ℕ) (reply_text : List ℕ → S → List ℕ) (called : Kind → S → List ℕ → List ℕ → OutcomeOf S) : Type 0 where
+  -- a reply's text is legal, and its frame fits the buffer
+  pub legal : (t : List ℕ) (s : S) → Text 4 (2 + longest) (reply_text t s)
+  -- what is valid stays so, and keeps its address
+  pub sound : (k : Kind) (s : S) (q o : List ℕ) → valid s ≡ true → 64 ≤ length o → valid (called k s q o).after ≡ true
+  pub unit : (k : Kind) (s : S) (q o : List ℕ) → valid s ≡ true → 64 ≤ length o → address (called k s q o).after ≡ address s
+
 -- ---- of a record: document 01's call
 abbrev pub called_record : Record → List ℕ → Outcome
 called_record r q = call_of Minicomputer r q (replicate 64 0)
@@ -136,3 +158,17 @@ Several = SeveralOn Record
 
 unfoldable pub several_of : Record → List ℕ → List ℕ → Several
 several_of r s o = several_by called_record valid r s o
+
+-- so it is what is said of whatever is held
+pub several_of_record : (r : Record) (s o : List ℕ) → several_held call_of valid r s o ≡ several_of r s o
+unfolding several_held several_of
+several_of_record r s o = refl
+
+-- and its call has what the walk rests on
+pub steady_record : SteadyLaws valid address_of reply_text call_of
+steady_record =
+    record {
+      legal = reply_legal;
+      sound = λ k r q o v l. call_keeps_valid k r q o v;
+      unit = λ k r q o v l. address_kept k r q o;
+    }

@@ -2,12 +2,12 @@
 #![tactic(auto)]
 
 ghost use Rattle.std.specs.Prelude.{◌≡◌, ◌≤◌, length, drop};
-ghost use Rattle.several.specs.Several.{several_of};
-ghost use Rattle.several.specs.Beside.{banked_several_of};
-ghost use Rattle.several.specs.Answers.{start_from, found_from, due_of, turn_from, served_as, several_as};
+ghost use Rattle.several.specs.Several.{SteadyLaws, several_held, steady_record};
+ghost use Rattle.several.specs.Beside.{steady_banked};
+ghost use Rattle.several.specs.Answers.{start_from, found_from, due_of, turn_from, several_as};
 
 use banked::Banked;
-use command::Effect;
+use controller::{Called, Held};
 use frame::{Addressed, ETX, Kind, LONGEST_TEXT, ROOM, STX, Silence};
 use state::Record;
 
@@ -22,75 +22,65 @@ pub struct Report {
     pub written: usize,
 }
 
-#[derive(Clone, Copy)]
-pub enum Answer {
-    // S1: nothing is taken.
-    Silent(Silence),
-    Served(Report),
+// The report, or S1, at which nothing is taken.
+pub type Answer = Result<Report, Silence>;
+
+// What the walk rests on: replies fit, and what is held stays valid and at its address.
+pub trait Steady: Held {
+    ghost steady: { SteadyLaws Self.valid Self.address Self.reply_text Self.called };
 }
 
-// The answer, and the record afterwards.
-#[derive(Clone, Copy)]
-pub struct Called {
-    pub answer: Answer,
-    pub after: Record,
+impl Steady for Record {
+    ghost steady = { steady_record };
 }
 
-// The answer, and record and bank afterwards.
-#[derive(Clone, Copy)]
-pub struct CalledBanked {
-    pub answer: Answer,
-    pub after: Banked,
+impl Steady for Banked {
+    ghost steady = { steady_banked };
 }
 
-// What the bytes from a place on start with, after those that are passed.
+// A frame that stands in the bytes: where it starts, and where it ends.
 #[derive(Clone, Copy)]
-enum Found {
-    // Where a frame starts, and where it ends.
-    Frame(usize, usize),
-    // The walk stops here: at the end, or at an STX that is not decided.
-    Stop(usize),
+struct Frame {
+    start: usize,
+    end: usize,
 }
 
-// What is due to a frame.
+// Why a frame gets no answer.
 #[derive(Clone, Copy)]
-enum Due {
-    // Nothing: S3 to S7.
+enum NotDue {
+    // S3 to S7
     Refused,
-    // Nothing: S8.
+    // S8
     OtherUnit,
-    // An answer, for which there is no room.
+    // An answer is due, for which there is no room.
     NoRoom,
-    // An answer to a text of this length, which starts at the frame's second byte.
-    Answered(usize),
 }
 
-// Where the walk stands next.
+// A frame to which an answer is due: where its text starts, where the text ends, and where the frame ends.
 #[derive(Clone, Copy)]
-enum Turn {
-    // It stops here: at the end, at an STX that is not decided, or at a frame whose answer has no room.
-    Stop(usize),
-    // An answer is due: where the text of the frame starts, where the text ends, and where the frame ends.
-    Answer(usize, usize, usize),
+struct Turn {
+    text: usize,
+    text_end: usize,
+    end: usize,
 }
 
 // The place of the next STX at or after a place, or the end.
+// A place within the bytes, here and in the two that call this, and no part of them: the places that are told are of the whole.
+#[tactic(auto, using(crate::proofs::Seek::start_form))]
 fn next_start(bytes: &[u8], from: usize) -> usize
     requires { from ≤ length bytes.now }
     ensures { result ≡ start_from from (drop from bytes.now) }
 {
-    let mut at = from;
-    while at < bytes.len() {
-        if bytes[at] == STX {
-            return at;
-        }
-        at += 1;
-    }
-    at
+    let rest = &bytes[from..];
+    from + rest
+        .iter()
+        .position(|byte| *byte == STX)
+        .unwrap_or(rest.len())
 }
 
-// The next frame at or after a place. The search for its ETX leaves the walk with the place where it stands.
-fn next_frame(bytes: &[u8], from: usize) -> Found
+// The next frame at or after a place; or where the walk stops: at the end, or at an STX that is not decided. The search for its ETX leaves
+// the walk with the place where it stands.
+fn next_frame(bytes: &[u8], from: usize) -> Result<Frame, usize>
     requires { from ≤ length bytes.now }
     ensures { result ≡ found_from from (drop from bytes.now) }
 {
@@ -98,13 +88,9 @@ fn next_frame(bytes: &[u8], from: usize) -> Found
     let place = 'walk: loop {
         start = next_start(bytes, start);
         if bytes.len() <= start {
-            return Found::Stop(start);
+            return Err(start);
         }
-        let mut at = start + 1;
-        'search: loop {
-            if bytes.len() <= at {
-                return Found::Stop(start);
-            }
+        'search: for at in start + 1..bytes.len() {
             if !frame::text_byte(bytes[at]) {
                 if bytes[at] == ETX {
                     break 'walk at;
@@ -118,161 +104,105 @@ fn next_frame(bytes: &[u8], from: usize) -> Found
                 start += 1;
                 continue 'walk;
             }
-            at += 1;
         }
+        return Err(start);
     };
     if bytes.len() - place < TRAILER {
-        return Found::Stop(start);
+        return Err(start);
     }
-    Found::Frame(start, place + TRAILER)
+    Ok(Frame {
+        start,
+        end: place + TRAILER,
+    })
 }
 
-// What is due to a frame from a unit with this address and so much reply room. The room counts only where an answer is due.
-fn due_to(address: u8, request: &[u8], room: usize) -> Due
+// The length of the text that starts at a frame's second byte, if an answer is due from the unit with this address, which has so much reply
+// room. The room counts only where an answer is due.
+#[tactic(auto, unfolding(crate::specs::Answers::due_of))]
+fn due_to(address: u8, request: &[u8], room: usize) -> Result<usize, NotDue>
     ensures { result ≡ due_of address room request.now }
 {
-    match frame::address(Kind::Minicomputer, request) {
-        Addressed::Silent(_) => Due::Refused,
-        Addressed::Unit(other, n) => {
-            if other != address {
-                return Due::OtherUnit;
-            }
-            if room < ROOM {
-                return Due::NoRoom;
-            }
-            Due::Answered(n)
-        }
+    let Ok(Addressed { unit, length }) = frame::address(Kind::Minicomputer, request) else {
+        return Err(NotDue::Refused);
+    };
+    if unit != address {
+        return Err(NotDue::OtherUnit);
     }
+    if room < ROOM {
+        return Err(NotDue::NoRoom);
+    }
+    Ok(length)
 }
 
-// The next frame at or after a place to which an answer is due; those that get none are passed. This is all of the walk that does not
-// ask what is held: every entry takes its frames from here.
-fn next_due(address: u8, bytes: &[u8], from: usize, room: usize) -> Turn
+// The next frame at or after a place to which an answer is due, those that get none being passed; or where the walk stops: as above, or at a
+// frame whose answer has no room. This is all of the walk that does not ask what is held: every entry takes its frames from here.
+fn next_due(address: u8, bytes: &[u8], from: usize, room: usize) -> Result<Turn, usize>
     requires { from ≤ length bytes.now }
     ensures { result ≡ turn_from address room 0 from (drop from bytes.now) }
 {
     let mut taken = from;
+    // From frame to frame: where the next one may start is known only when one was read.
     loop {
-        match next_frame(bytes, taken) {
-            Found::Stop(place) => {
-                return Turn::Stop(place);
+        let Frame { start, end } = next_frame(bytes, taken)?;
+        match due_to(address, &bytes[start..end], room) {
+            Ok(length) => {
+                let text = start + 1;
+                return Ok(Turn {
+                    text,
+                    text_end: text + length,
+                    end,
+                });
             }
-            Found::Frame(start, end) => {
-                match due_to(address, &bytes[start..end], room) {
-                    Due::Refused => {
-                        taken = start + 1;
-                    }
-                    Due::OtherUnit => {
-                        taken = end;
-                    }
-                    Due::NoRoom => {
-                        return Turn::Stop(start);
-                    }
-                    Due::Answered(n) => {
-                        let text = start + 1;
-                        return Turn::Answer(text, text + n, end);
-                    }
-                }
+            Err(NotDue::Refused) => {
+                taken = start + 1;
+            }
+            Err(NotDue::OtherUnit) => {
+                taken = end;
+            }
+            Err(NotDue::NoRoom) => {
+                return Err(start);
             }
         }
     }
-}
-
-fn served(taken: usize, answered: usize, written: usize) -> Answer
-    ensures { result ≡ served_as taken answered written }
-{
-    Answer::Served(Report {
-        taken: taken,
-        answered: answered,
-        written: written,
-    })
 }
 
 // Answers all frames in the lent bytes, replies end to end.
-pub fn call(before: Record, bytes: &[u8], out: &mut [u8]) -> Called
-    ensures { several_as result.answer result.after out.new ≡ several_of before bytes.now out.old }
+pub fn call<H: Steady>(before: H, bytes: &[u8], out: &mut [u8]) -> Called<Answer, H>
+    ensures { several_as result.answer result.after out.new ≡ several_held H.called H.valid before bytes.now out.old }
 {
-    if !before.valid() {
+    if !before.is_valid() {
         return Called {
-            answer: Answer::Silent(Silence::InvalidRecord),
+            answer: Err(Silence::InvalidRecord),
             after: before,
         };
     }
-    let mut taken = 0;
-    let mut answered = 0;
-    let mut written = 0;
-    let mut current = before;
-    loop {
-        match next_due(before.address, bytes, taken, out.len() - written) {
-            Turn::Stop(place) => {
-                let answer = served(place, answered, written);
-                return Called {
-                    answer: answer,
-                    after: current,
-                };
-            }
-            Turn::Answer(text, text_end, end) => {
-                let replied = controller::reply_to(
-                    Kind::Minicomputer,
-                    current,
-                    &bytes[text..text_end],
-                    &mut out[written..],
-                );
-                let answer = replied.answer;
-                let effect = replied.effect;
-                taken = end;
-                // there is room, so it is no silence
-                answered += 1;
-                written += answer.length();
-                // not by `carry_out`, which copies the record for a read too
-                match effect {
-                    Effect::Nothing => {}
-                    Effect::Write(request) => {
-                        current = command::apply(current, request);
-                    }
-                }
-            }
-        }
-    }
-}
-
-// The same with a bank beside the record.
-pub fn call_banked(before: Banked, bytes: &[u8], out: &mut [u8]) -> CalledBanked
-    ensures { several_as result.answer result.after out.new ≡ banked_several_of before bytes.now out.old }
-{
-    if !before.valid() {
-        return CalledBanked {
-            answer: Answer::Silent(Silence::InvalidRecord),
-            after: before,
-        };
-    }
+    let address = before.address();
     let mut taken = 0;
     let mut answered = 0;
     let mut written = 0;
     let mut held = before;
     loop {
-        match next_due(before.state.address, bytes, taken, out.len() - written) {
-            Turn::Stop(place) => {
-                let answer = served(place, answered, written);
-                return CalledBanked {
-                    answer: answer,
+        match next_due(address, bytes, taken, out.len() - written) {
+            Err(place) => {
+                return Called {
+                    answer: Ok(Report {
+                        taken: place,
+                        answered,
+                        written,
+                    }),
                     after: held,
                 };
             }
-            Turn::Answer(text, text_end, end) => {
-                let replied = banked::reply_to(
-                    Kind::Minicomputer,
-                    held,
-                    &bytes[text..text_end],
-                    &mut out[written..],
-                );
-                let answer = replied.answer;
-                let after = replied.after;
-                taken = end;
+            Ok(turn) => {
+                let text = &bytes[turn.text..turn.text_end];
+                let replied = held.reply_to(Kind::Minicomputer, text, &mut out[written..]);
+                taken = turn.end;
                 // there is room, so it is no silence
                 answered += 1;
-                written += answer.length();
-                held = after;
+                written += replied.answer.unwrap_or(0);
+                if let Some(writing) = replied.effect {
+                    held.carry_out(writing);
+                }
             }
         }
     }

@@ -113,13 +113,6 @@ unfolding lines_from
 lines_none ns ss o n s h = record { low = omega arith; all_counts = n; all_sums = s; wide = h; laid = laid_none 0 o; high = omega arith }
 
 module _ {ns ss o o₁ : List ℕ} {at i : ℕ} (l : Lines ns ss o o₁ at i) where
-  pub lines_length : length o₁ ≡ length o
-  lines_length = let t : at ≤ length o = let a = l.high in let b = l.low in let c = l.wide in omega arith in
-      ap length l.laid.1 ∙ over_at-length 0 (lines_from 1 (take i ns) (take i ss)) o (omega (arith, l.laid.0))
-
-  pub line_room_lem : i < recipes → at + line_room ≤ length o₁
-  line_room_lem h = let a = l.high in let c = l.wide in omega (arith, lines_length)
-
   pub lines_more : (m : ℕ) (o₂ : List ℕ) → i < recipes → Laid at (recipe_text (i + 1) (get_or ns i 0) (get_or ss i 0)) o₁ m o₂ → Lines ns ss o o₂ m (i + 1)
   lines_more m o₂ h a =
       let x : take (i + 1) ns ≡ take i ns ++ (get_or ns i 0 ∷ []) = rw (add-one) (take-suc ns i 0 (let e = l.all_counts in omega arith)) in

@@ -1,7 +1,9 @@
-// Totals as text: a sum in units, and a line for each recipe.
+// Totals as text: a sum in units, and a line for each recipe. They are written by text's writers, as the replies are: a Display would need
+// a Write of its own over the lent buffer, and a failure that cannot come.
 #![tactic(auto)]
 
-ghost use Rattle.std.specs.Prelude.{◌≡◌, ◌+◌, ◌≤◌, length};
+ghost use Rattle.std.specs.Prelude.{◌≡◌, ◌+◌, ◌≤◌, leb, length, is_some};
+ghost use Rattle.std.specs.Option.{unwrap_or};
 ghost use Rattle.base.specs.Lists.{over_at};
 ghost use Rattle.text.specs.Written.{written_first};
 ghost use Rattle.sheet.specs.Sheet.{units_text, label_text, line_text, recipe_text, sheet_text, units_room, label_room, line_room, room};
@@ -29,61 +31,76 @@ fn put_units(sum: u64, at: usize, out: &mut [u8]) -> usize
     put_digits(sum, 4, decimals, out)
 }
 
-// Writes a sum to the start of out, and gives its length; 0 if out is under LINE_ROOM bytes, and then nothing is written.
-pub fn write_units(sum: u64, out: &mut [u8]) -> usize
-    ensures { (result, out.new) ≡ written_first line_room (units_text sum) out.old }
+// Writes a sum to the start of out, and gives its length; nothing if out is under LINE_ROOM bytes, and then nothing is written.
+pub fn write_units(sum: u64, out: &mut [u8]) -> Option<usize>
+    ensures written { (unwrap_or result 0, out.new) ≡ written_first line_room (units_text sum) out.old }
+    ensures room { is_some result ≡ leb line_room (length out.old) }
 {
     if out.len() < LINE_ROOM {
-        return 0;
+        return None;
     }
-    put_units(sum, 0, out)
+    Some(put_units(sum, 0, out))
 }
 
-// What stands before the sum: the recipe and the number of its batches.
-fn put_label(recipe: u64, count: u32, at: usize, out: &mut [u8]) -> usize
-    requires { at + label_room ≤ length out.old }
-    ensures { (result ≡ at + length (label_text recipe count)) × (out.new ≡ over_at at (label_text recipe count) out.old) }
-{
-    let space = put_digits(recipe, 2, at, out);
-    let number = put_word(b" ", space, out);
-    let gap = put_decimal(count as u64, number, out);
-    put_word(b" ", gap, out)
+// What the line of a recipe tells.
+#[derive(Clone, Copy)]
+struct Line {
+    recipe: u64,
+    count: u32,
+    sum: u64,
 }
 
-// The line of a recipe.
-fn put_line(recipe: u64, count: u32, sum: u64, at: usize, out: &mut [u8]) -> usize
-    requires { at + line_room ≤ length out.old }
-    ensures { (result ≡ at + length (line_text recipe count sum)) × (out.new ≡ over_at at (line_text recipe count sum) out.old) }
-{
-    let units = put_label(recipe, count, at, out);
-    let end = put_units(sum, units, out);
-    put_word(b"\n", end, out)
-}
-
-// The line of a recipe that occurs, and nothing for another.
-fn put_recipe(recipe: u64, count: u32, sum: u64, at: usize, out: &mut [u8]) -> usize
-    requires { at + line_room ≤ length out.old }
-    ensures { (result ≡ at + length (recipe_text recipe count sum)) × (out.new ≡ over_at at (recipe_text recipe count sum) out.old) }
-{
-    if count == 0 {
-        return at;
+impl Line {
+    // What stands before the sum: the recipe and the number of its batches.
+    fn put_label(self, at: usize, out: &mut [u8]) -> usize
+        requires { at + label_room ≤ length out.old }
+        ensures { (result ≡ at + length (label_text self.recipe self.count)) × (out.new ≡ over_at at (label_text self.recipe self.count) out.old) }
+    {
+        let space = put_digits(self.recipe, 2, at, out);
+        let number = put_word(b" ", space, out);
+        let gap = put_decimal(u64::from(self.count), number, out);
+        put_word(b" ", gap, out)
     }
-    put_line(recipe, count, sum, at, out)
+
+    // The whole line.
+    fn put_line(self, at: usize, out: &mut [u8]) -> usize
+        requires { at + line_room ≤ length out.old }
+        ensures { (result ≡ at + length (line_text self.recipe self.count self.sum)) × (out.new ≡ over_at at (line_text self.recipe self.count self.sum) out.old) }
+    {
+        let units = self.put_label(at, out);
+        let end = put_units(self.sum, units, out);
+        put_word(b"\n", end, out)
+    }
+
+    // The line if the recipe occurs, and else nothing.
+    fn put_recipe(self, at: usize, out: &mut [u8]) -> usize
+        requires { at + line_room ≤ length out.old }
+        ensures { (result ≡ at + length (recipe_text self.recipe self.count self.sum)) × (out.new ≡ over_at at (recipe_text self.recipe self.count self.sum) out.old) }
+    {
+        if self.count == 0 {
+            return at;
+        }
+        self.put_line(at, out)
+    }
 }
 
-// Writes a line for each recipe that occurs, rising, to the start of out, and gives their length; 0 if out is under ROOM bytes, and then
-// nothing is written.
-pub fn write(totals: Totals, out: &mut [u8]) -> usize
-    ensures { (result, out.new) ≡ written_first room (sheet_text totals.counts totals.sums) out.old }
+// Writes a line for each recipe that occurs, rising, to the start of out, and gives their length; nothing if out is under ROOM bytes, and
+// then nothing is written.
+pub fn write(totals: Totals, out: &mut [u8]) -> Option<usize>
+    ensures written { (unwrap_or result 0, out.new) ≡ written_first room (sheet_text totals.counts totals.sums) out.old }
+    ensures room { is_some result ≡ leb room (length out.old) }
 {
     if out.len() < ROOM {
-        return 0;
+        return None;
     }
     let mut at = 0;
-    let mut i = 0;
-    while i < RECIPES {
-        at = put_recipe(i as u64 + 1, totals.counts[i], totals.sums[i], at, out);
-        i += 1;
+    for i in 0..RECIPES {
+        let line = Line {
+            recipe: i as u64 + 1,
+            count: totals.counts[i],
+            sum: totals.sums[i],
+        };
+        at = line.put_recipe(at, out);
     }
-    at
+    Some(at)
 }

@@ -6,83 +6,78 @@ use mathlib.Core.Bool.{Bool, true, false, not, ◌&&◌}
 use mathlib.Core.Path.{◌≡◌, refl, sym, ap, ◌∙◌}
 use mathlib.Core.List.{List, [], ◌∷◌, ◌++◌}
 use native.Mathlib.Omega.{arith}
-use lib.ListN.{length, drop, length-drop, drop_of_length-le, length-append, take-append-drop}
-use lib.Seq.{drop-drop, take_at, take-append_seam, drop-append_seam}
+use lib.ListN.{length, take, drop, length-append, take-append-drop}
+use lib.Seq.{take_at, take-append_seam, drop-append_seam}
 use lib.Dec.{eqb}
-use borrow.Author.Tests.{not-true, not-false, eqb-true}
+use lib.Pointwise.{pointwise}
+use Rattle.std.proofs.Common.{Option, Some, None, Bor, MatchOption, unwrap_or, is_some}
+use borrow.Author.Tests.{not-true, eqb-true}
 use Rattle.base.specs.Text.{text}
-use Rattle.base.specs.Test.{pick}
+use Rattle.base.specs.Test.{pick, unless}
 use Rattle.base.proofs.Tests.{and_left, and_right}
 use Rattle.state.specs.declared.Record.{Record}
 use Rattle.state.specs.Field.{alarms, position}
 use Rattle.command.specs.Status.{phase_codes, flag_codes, status_codes, passes, Code, codes_on}
 use Rattle.text.specs.Word.{space, equal}
-use Rattle.text.proofs.Words.{equal_true, equal-same, word-length}
+use Rattle.text.proofs.Words.{equal-pointwise, equal_true, equal-same, word-length}
 use Rattle.knowledge.specs.declared.Knowledge.{Knowledge}
 use Rattle.knowledge.specs.Sets.{none_mask, some_mask, mask_in}
 use Rattle.knowledge.specs.Knowledge.{dead, restricted}
 use Rattle.knowledge.proofs.Possible.{Kept}
-use Rattle.showing.specs.declared.Walk.{Walk}
+use Rattle.showing.specs.declared.Test as declared
 use Rattle.showing.specs.Heard.{starts_with}
-use Rattle.showing.specs.Shown.{word_shown, left_of, codes_shown, list_shown, test_shown, printed_code}
-use Rattle.text.proofs.Words.{word-within}
+use Rattle.showing.specs.Shown.{word_shown, codes_shown, list_shown, test_shown, printed_code}
 use Rattle.showing.proofs.Fields.{Shows, word_shown_lem, shown_as, both_shown, unless-shown, is_small, Tested, small_tested, alarm_tested, test_shown_lem}
 
 -- ---- `show_code`
-module _ (s w : List ℕ) (p m n : ℕ) (x : Walk) (r : Knowledge) (b : Bool) (e : b ≡ starts_with w (drop x.at s)) (l : x.at ≤ length s) where
-  pub code_stands : b ≡ true → r ≡ restricted p m x.known
-      → (left_of s record { at = x.at + length w; known = r } ≡ word_shown w p m n (left_of s x)) × (x.at + length w ≤ length s)
+module _ (s w : List ℕ) (p m n : ℕ) (k : Knowledge) (r : Option (Bor (List ℕ)))
+    (read : MatchOption r (pointwise eqb (take (length w) s) w ≡ false) (λ x. (pointwise eqb (take (length w) s) w ≡ true) × (x.now ≡ drop (length w) s) × (length x.now + length w ≡ length s))) where
+  pub code_read : (d : Bor (List ℕ)) → d.now ≡ s → ((unwrap_or r d).now, restricted p (pick (is_some r) m n) k) ≡ word_shown w p m n (s, k)
   unfolding word_shown
-  code_stands h z =
-      let t : starts_with w (drop x.at s) ≡ true = sym e ∙ h in (
-        ap (λ (k : Knowledge). (drop (x.at + length w) s, k)) z ∙ ap (λ (ys : List ℕ). (ys, restricted p m x.known)) (sym (drop-drop (length w) x.at s)) ∙ simp t,
-        word-within s w x.at l t,
-      )
+  code_read d same = go r read
+    where
+      stands : pointwise eqb (take (length w) s) w ≡ starts_with w s
+      stands = equal-pointwise (take (length w) s) w
 
-  pub code_lacks : b ≡ false → r ≡ restricted p n x.known
-      → (left_of s record { at = x.at; known = r } ≡ word_shown w p m n (left_of s x)) × (x.at ≤ length s)
-  unfolding word_shown
-  code_lacks h z = (ap (λ (k : Knowledge). (drop x.at s, k)) z ∙ simp (← e, h), l)
+      go : (x : Option (Bor (List ℕ))) → MatchOption x (pointwise eqb (take (length w) s) w ≡ false) (λ y. (pointwise eqb (take (length w) s) w ≡ true) × (y.now ≡ drop (length w) s) × (length y.now + length w ≡ length s))
+          → ((unwrap_or x d).now, restricted p (pick (is_some x) m n) k) ≡ word_shown w p m n (s, k)
+      go None h = simp (sym stands ∙ h, same)
+      go (Some y) h = simp (sym stands ∙ h.0, h.1)
 
 -- ---- `show_flag_codes` and `show_phase_codes`: one code behind another
-module _ (s : List ℕ) (c : Code) (cs rest : List Code) (x y z : Walk) where
-  pub code_shown : left_of s y ≡ word_shown (printed_code c) (position c.if.field) (mask_in c.if.field c.if.holds) (mask_in c.if.field (λ n. not (c.if.holds n))) (left_of s x)
-      → codes_shown rest (left_of s z) ≡ codes_shown cs (left_of s y) → codes_shown rest (left_of s z) ≡ codes_shown (c ∷ cs) (left_of s x)
+module _ (s t rest : List ℕ) (c : Code) (cs ds : List Code) (x : declared.Test) (k l m : Knowledge) where
+  pub code_shown : (t, l) ≡ word_shown (printed_code c) x.at x.with x.without (s, k)
+      → x ≡ record { at = position c.if.field; with = mask_in c.if.field c.if.holds; without = mask_in c.if.field (λ n. not (c.if.holds n)) }
+      → codes_shown ds (rest, m) ≡ codes_shown cs (t, l) → codes_shown ds (rest, m) ≡ codes_shown (c ∷ cs) (s, k)
   unfolding codes_shown
-  code_shown e h = h ∙ ap (codes_shown cs) e
+  code_shown e f h = h ∙ ap (codes_shown cs) (e ∙ ap (λ (y : declared.Test). word_shown (printed_code c) y.at y.with y.without (s, k)) f)
 
-pub ruleset codes-told = (code_shown, refl)
+pub ruleset codes_told = (code_shown, refl)
 
 -- ---- `show_codes`
-module _ (s : List ℕ) (k : Knowledge) (b : Bool) (e : b ≡ starts_with (text "RS ") s) where
-  pub list_room : not b ≡ false → 3 ≤ length s
-  list_room h = word-within s (text "RS ") 0 (omega arith) (sym e ∙ not-false b h)
+none_of : (s : List ℕ) → length s ≡ 0 → s ≡ []
+none_of [] e = refl
+none_of (x ∷ s) e = absurd (omega arith)
 
-  pub list_wrong : (r : Knowledge) → not b ≡ true → r ≡ dead k → r ≡ list_shown s k
+module _ (s : List ℕ) (k : Knowledge) where
+  pub list_wrong : pointwise eqb (take 3 s) (text "RS ") ≡ false → list_shown s k ≡ dead k
   unfolding list_shown
-  list_wrong r h z = z ∙ simp (← e, not-true b h)
+  list_wrong e = simp (sym (equal-pointwise (take 3 s) (text "RS ")) ∙ e)
 
-  module _ (h : not b ≡ false) (u x y : Walk) (u' : left_of s u ≡ word_shown (text "AL ") (position alarms) some_mask none_mask (drop 3 s, k))
-      (x' : codes_shown phase_codes (left_of s x) ≡ codes_shown flag_codes (left_of s u))
-      (y' : codes_shown [] (left_of s y) ≡ codes_shown phase_codes (left_of s x)) where
-    list_form : codes_shown [] (left_of s y) ≡ list_shown s k
+  module _ (e : pointwise eqb (take 3 s) (text "RS ") ≡ true) (t u rest : List ℕ) (a b c : Knowledge)
+      (x : (t, a) ≡ word_shown (text "AL ") (position alarms) some_mask none_mask (drop 3 s, k))
+      (y : codes_shown phase_codes (u, b) ≡ codes_shown flag_codes (t, a)) (z : codes_shown [] (rest, c) ≡ codes_shown phase_codes (u, b)) where
+    list_read : list_shown s k ≡ unless (equal rest []) (dead c) c
     unfolding list_shown codes_shown
-    list_form = y' ∙ (x' ∙ ap (codes_shown flag_codes) u' ∙ simp (← e, not-false b h))
+    list_read = simp (sym (equal-pointwise (take 3 s) (text "RS ")) ∙ e) (sym (z ∙ (y ∙ ap (codes_shown flag_codes) x)))
 
-    pub list_left : (r : Knowledge) → y.at ≤ length s → (y.at ≡ length s → ⊥) → r ≡ dead y.known → r ≡ list_shown s k
-    unfolding codes_shown
-    list_left r l q z =
-        let n : false ≡ equal (drop y.at s) [] = word-length (drop y.at s) [] (λ m. q (omega (arith, length-drop y.at s))) in
-        let u : dead y.known ≡ codes_shown [] (left_of s y) = simp (sym n) in
-        z ∙ (u ∙ list_form)
+    pub list_left : (length rest ≡ 0 → ⊥) → list_shown s k ≡ dead c
+    list_left l = list_read ∙ simp (sym (word-length rest [] l))
 
-    pub list_whole : y.at ≡ length s → y.known ≡ list_shown s k
-    unfolding codes_shown equal
-    list_whole q =
-        let u : y.known ≡ codes_shown [] (left_of s y) = simp (ap (λ (l : List ℕ). equal l []) (drop_of_length-le s {i = y.at} (omega arith))) in
-        u ∙ list_form
+    pub list_whole : length rest ≡ 0 → list_shown s k ≡ c
+    list_whole l = list_read ∙ simp (ap (λ (l : List ℕ). equal l []) (none_of rest l) ∙ equal-same [])
 
-pub ruleset List-read = (list_wrong, list_left, list_whole)
+pub ruleset List_read = (list_wrong, list_left, list_whole)
 
 -- ---- a word at the start of a text, and what is left behind it
 module _ (w xs rest : List ℕ) where

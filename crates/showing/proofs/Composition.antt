@@ -1,5 +1,6 @@
 -- RC shows exactly the records of that recipe and of that recipe's factor: the recipe that is read tells whose factor follows, and the
 -- reply is split where the recipe's digits end. Assumes nothing.
+use Rattle.std.specs.Prelude.{Option, Some, None}
 use Prim.Native.Nat.{ℕ, ◌<◌}
 use mathlib.Core.Bool.{true, false, false≢true}
 use mathlib.Core.Path.{◌≡◌, sym, ap, ◌∙◌}
@@ -15,8 +16,6 @@ use Rattle.state.specs.Field.{recipe, value, get, field_range}
 use Rattle.state.specs.Valid.{within, valid}
 use Rattle.state.proofs.Kept.{field_in}
 use Rattle.state.proofs.Parameters.{value_small}
-use Rattle.text.specs.declared.Digits.{Digits}
-use Rattle.text.specs.declared.Digits.TheVariants as digits_read
 use Rattle.text.specs.Word.{space, digits}
 use Rattle.command.specs.Commands.{factor_place, composition, printed}
 use Rattle.text.proofs.Words.{digits-length}
@@ -43,22 +42,22 @@ recipe-known : (r : Record) → valid r ≡ true → within (field_range recipe)
 recipe-known r v = field_in r v recipe (omega arith)
 
 -- the two numbers
-abbrev Both : Digits → Digits → Record → Type 0
-Both d e r = (d ≡ digits_read.Number (get recipe r)) × (e ≡ digits_read.Number (factor r))
+abbrev Both : Option ℕ → Option ℕ → Record → Type 0
+Both d e r = (d ≡ Some (get recipe r)) × (e ≡ Some (factor r))
 
-numbers-shown : {a c : ℕ} (d e : Digits) (k : Knowledge) → Kept a c k → Shows a c k (composition_shown d e k) (Both d e)
-numbers-shown digits_read.Nothing e k kept =
-    unless-shown false k k (Both digits_read.Nothing e) kept (λ q. absurd (false≢true q)) (λ r v q. absurd (no_number (get recipe r) q.0))
-numbers-shown (digits_read.Number n) e k kept =
-    let l : Knowledge = number_shown recipe (digits_read.Number n) k in
-    let t = number_shown_lem k recipe (digits_read.Number n) kept (omega arith) (omega arith) in
-    unless-shown (within (field_range recipe) n) k (number_shown (value (factor_place n)) e l) (Both (digits_read.Number n) e) kept
+numbers-shown : {a c : ℕ} (d e : Option ℕ) (k : Knowledge) → Kept a c k → Shows a c k (composition_shown d e k) (Both d e)
+numbers-shown None e k kept =
+    unless-shown false k k (Both None e) kept (λ q. absurd (false≢true q)) (λ r v q. absurd (no_number (get recipe r) q.0))
+numbers-shown (Some n) e k kept =
+    let l : Knowledge = number_shown recipe (Some n) k in
+    let t = number_shown_lem k recipe (Some n) kept (omega arith) (omega arith) in
+    unless-shown (within (field_range recipe) n) k (number_shown (value (factor_place n)) e l) (Both (Some n) e) kept
     (λ h.
-    shown_as k _ (λ r. (digits_read.Number n ≡ digits_read.Number (get recipe r)) × (e ≡ digits_read.Number (get (value (factor_place n)) r)))
-    (Both (digits_read.Number n) e)
-    (λ r v q. (q.0, q.1 ∙ ap (λ (m : ℕ). digits_read.Number (get (value (factor_place m)) r)) (sym (same_number n (get recipe r) q.0))))
-    (λ r v q. (q.0, q.1 ∙ ap (λ (m : ℕ). digits_read.Number (get (value (factor_place m)) r)) (same_number n (get recipe r) q.0)))
-    (both_shown k l _ (λ r. digits_read.Number n ≡ digits_read.Number (get recipe r)) (λ r. e ≡ digits_read.Number (get (value (factor_place n)) r)) t
+    shown_as k _ (λ r. (Some n ≡ Some (get recipe r)) × (e ≡ Some (get (value (factor_place n)) r)))
+    (Both (Some n) e)
+    (λ r v q. (q.0, q.1 ∙ ap (λ (m : ℕ). Some (get (value (factor_place m)) r)) (sym (same_number n (get recipe r) q.0))))
+    (λ r v q. (q.0, q.1 ∙ ap (λ (m : ℕ). Some (get (value (factor_place m)) r)) (same_number n (get recipe r) q.0)))
+    (both_shown k l _ (λ r. Some n ≡ Some (get recipe r)) (λ r. e ≡ Some (get (value (factor_place n)) r)) t
     (number_shown_lem l (value (factor_place n)) e t.kept (omega (arith, factor-within n h)) (omega arith))))
     (λ r v q. ap (within (field_range recipe)) (sym (same_number n (get recipe r) q.0)) ∙ recipe-known r v)
 

@@ -1,5 +1,6 @@
 -- What a reply shows is exact: a record is possible after a shown reply exactly if it was possible before and gives that reply; a refusal
 -- is read exactly where one was printed, and no shown reply is one. One law per kind of reply. Assumes nothing.
+use Rattle.std.specs.Prelude.{Some, None}
 use Prim.Native.Nat.{ℕ, ◌+◌, ◌^◌, ◌≤◌, ◌<◌}
 use mathlib.Core.Path.{◌≡◌, refl, sym}
 use mathlib.Core.List.{List, [], ◌∷◌, ◌++◌}
@@ -12,7 +13,6 @@ use Rattle.state.specs.Parameter.{code_at}
 use Rattle.state.specs.Alarm.{character_values}
 use Rattle.state.specs.Field.{access, alarms, get, position, field_range, Held}
 use Rattle.state.proofs.Parameters.{value_small}
-use Rattle.text.specs.declared.Digits.TheVariants as digits_read
 use Rattle.text.specs.Word.{space, digits, equal}
 use Rattle.command.specs.Status.{status_characters, alarm_characters}
 use Rattle.command.specs.Commands.{Arguments, Reply, acknowledged, status, codes, numbered, composition, system_alarms, printed, commands, row_of}
@@ -39,13 +39,13 @@ Readable composition = Unit
 Readable system_alarms = Unit
 
 -- ---- refusals
-pub refusal-told : (b : List ℕ) (n : ℕ) → refusal_in b ≡ digits_read.Number n → (b ≡ text "NO" ++ digits 2 n) × (n < 100)
+pub refusal-told : (b : List ℕ) (n : ℕ) → refusal_in b ≡ Some n → (b ≡ text "NO" ++ digits 2 n) × (n < 100)
 refusal-told b n e = behind_told (text "NO") 2 b n e
 
-pub refusal_left : (n : ℕ) → n < 100 → refusal_in (text "NO" ++ digits 2 n) ≡ digits_read.Number n
+pub refusal_left : (n : ℕ) → n < 100 → refusal_in (text "NO" ++ digits 2 n) ≡ Some n
 refusal_left n h = behind_left (text "NO") 2 n (omega arith) h
 
-pub shows_no_refusal : (s : Reply) (r : Record) → Readable s → refusal_in (printed s r) ≡ digits_read.Nothing
+pub shows_no_refusal : (s : Reply) (r : Record) → Readable s → refusal_in (printed s r) ≡ None
 unfolding status_characters alarm_characters character_values equal
 shows_no_refusal acknowledged r h = behind_none (text "NO") 2 (text "OK") refl
 shows_no_refusal status r h = sym (behind_length (text "NO") (status_characters r) 2 (λ e. omega arith))

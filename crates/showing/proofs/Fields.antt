@@ -1,5 +1,6 @@
 -- What is shown of one field is exact: a test that holds or not, as shown, and a number. By the laws of one cut of the knowledge. Assumes
 -- nothing.
+use Rattle.std.specs.Prelude.{Option, Some, None}
 use Prim.Native.Nat.{ℕ, ◌≤◌, ◌<◌, ◌^◌}
 use mathlib.Core.Bool.{Bool, true, false, not, ◌&&◌, false≢true}
 use mathlib.Core.Path.{◌≡◌, refl, sym, ap, subst, ◌∙◌}
@@ -14,8 +15,6 @@ use Rattle.state.specs.Parameter.{parameter_count}
 use Rattle.state.specs.Field.{Field, access, value, get, position, field_range, Held}
 use Rattle.state.specs.Valid.{valid}
 use Rattle.state.proofs.Kept.{field_in}
-use Rattle.text.specs.declared.Digits.{Digits}
-use Rattle.text.specs.declared.Digits.TheVariants.{Number, Nothing}
 use Rattle.text.specs.Word.{digits, equal}
 use Rattle.command.specs.Status.{Test, any_alarm, passes}
 use Rattle.text.proofs.Words.{equal_true, equal-same}
@@ -111,37 +110,37 @@ test_shown_lem {a} {c} b t k kept h = go b
         (passing-shown k t.field (λ n. not (t.holds n)) kept h.held (testable_not t.field t.holds h.coded))
 
 -- ---- a number
-pub same_number : (m n : ℕ) → Number m ≡ Number n → n ≡ m
+pub same_number : (m n : ℕ) → Some m ≡ Some n → n ≡ m
 same_number m n e = cc
 
-pub no_number : (n : ℕ) → Nothing ≡ Number n → ⊥
+pub no_number : (n : ℕ) → None ≡ Some n → ⊥
 no_number n e = let z : ◌≡◌ {A = ℕ} 0 1 = cc in omega arith
 
-pub number_shown_lem : {a c : ℕ} (k : Knowledge) (f : Field) (d : Digits) → Kept a c k → Held f → position access < position f
-    → Shows a c k (number_shown f d k) (λ r. d ≡ Number (get f r))
+pub number_shown_lem : {a c : ℕ} (k : Knowledge) (f : Field) (d : Option ℕ) → Kept a c k → Held f → position access < position f
+    → Shows a c k (number_shown f d k) (λ r. d ≡ Some (get f r))
 number_shown_lem {a} {c} k f d kept held h = go d (kind_of f) refl
   where
-    go : (x : Digits) (kind : Kind) → kind_of f ≡ kind → Shows a c k (number_by kind f x k) (λ r. x ≡ Number (get f r))
-    go (Number n) several e =
-        shown_as k _ (λ r. eqb (get f r) n ≡ true) (λ r. Number n ≡ Number (get f r)) (λ r v q. ap Number (sym (eqb-true (get f r) n q)))
+    go : (x : Option ℕ) (kind : Kind) → kind_of f ≡ kind → Shows a c k (number_by kind f x k) (λ r. x ≡ Some (get f r))
+    go (Some n) several e =
+        shown_as k _ (λ r. eqb (get f r) n ≡ true) (λ r. Some n ≡ Some (get f r)) (λ r v q. ap Some (sym (eqb-true (get f r) n q)))
         (λ r v q. eq-eqb (get f r) n (same_number n (get f r) q))
         (subst (λ (kind : Kind). Shows a c k (restricted (position f) (mask_by kind f (λ m. eqb m n)) k) (λ r. eqb (get f r) n ≡ true)) e
         (passing-shown k f (λ m. eqb m n) kept held (small_testable f (λ m. eqb m n) e)))
-    go (Number n) single e =
+    go (Some n) single e =
         record {
           kept = holding_kept k f n kept held e h;
-          told = λ r p. let t = holding-told k r f n kept.full held e p in (t.0, ap Number (sym t.1));
+          told = λ r p. let t = holding-told k r f n kept.full held e p in (t.0, ap Some (sym t.1));
           left = λ r p q. holding_left k r f n kept.full held e p (same_number n (get f r) q);
         }
-    go (Number n) alarmed e =
+    go (Some n) alarmed e =
         record {
           kept = settled_kept k f n kept held h;
-          told = λ r p. let t = settled-told k r f n kept.full held p in (t.0, ap Number (sym t.1));
+          told = λ r p. let t = settled-told k r f n kept.full held p in (t.0, ap Some (sym t.1));
           left = λ r p q. settled_left k r f n kept.full held p (same_number n (get f r) q);
         }
-    go Nothing several e = unless-shown false k k (λ r. Nothing ≡ Number (get f r)) kept (λ q. absurd (false≢true q)) (λ r v q. absurd (no_number (get f r) q))
-    go Nothing single e = unless-shown false k k (λ r. Nothing ≡ Number (get f r)) kept (λ q. absurd (false≢true q)) (λ r v q. absurd (no_number (get f r) q))
-    go Nothing alarmed e = unless-shown false k k (λ r. Nothing ≡ Number (get f r)) kept (λ q. absurd (false≢true q)) (λ r v q. absurd (no_number (get f r) q))
+    go None several e = unless-shown false k k (λ r. None ≡ Some (get f r)) kept (λ q. absurd (false≢true q)) (λ r v q. absurd (no_number (get f r) q))
+    go None single e = unless-shown false k k (λ r. None ≡ Some (get f r)) kept (λ q. absurd (false≢true q)) (λ r v q. absurd (no_number (get f r) q))
+    go None alarmed e = unless-shown false k k (λ r. None ≡ Some (get f r)) kept (λ q. absurd (false≢true q)) (λ r v q. absurd (no_number (get f r) q))
 
 -- a field of a valid record fits a width that its range fits
 pub field_fits : (r : Record) (f : Field) (n : ℕ) → valid r ≡ true → Held f → (field_range f).high < 10 ^ n → get f r < 10 ^ n
@@ -151,5 +150,5 @@ field_fits r f n v held h = omega (arith, between_high (field_range f).low (fiel
 pub numbered-shown : {a c : ℕ} (k : Knowledge) (w : List ℕ) (n : ℕ) (f : Field) (b : List ℕ) → Kept a c k → Held f → position access < position f
     → (field_range f).high < 10 ^ n → n ≤ 8 → Shows a c k (number_shown f (number_behind w n b) k) (λ r. w ++ digits n (get f r) ≡ b)
 numbered-shown k w n f b kept held h l s =
-    shown_as k _ (λ r. number_behind w n b ≡ Number (get f r)) (λ r. w ++ digits n (get f r) ≡ b) (λ r v e. sym (behind_told w n b (get f r) e).0)
+    shown_as k _ (λ r. number_behind w n b ≡ Some (get f r)) (λ r. w ++ digits n (get f r) ≡ b) (λ r v e. sym (behind_told w n b (get f r) e).0)
     (λ r v e. ap (number_behind w n) (sym e) ∙ behind_left w n (get f r) s (field_fits r f n v held l)) (number_shown_lem k f (number_behind w n b) kept held h)

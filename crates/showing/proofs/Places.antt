@@ -1,76 +1,63 @@
--- What is done at a place beyond the last parameter does not depend on the place, so all of them may stand as one. Assumes nothing.
-use Prim.Native.Nat.{ℕ, ◌+◌, ◌*◌, ◌≤◌, ◌<◌}
+-- What is done at a position beyond the last does not depend on the position, so all of them may stand at the end. Assumes nothing.
+use Rattle.std.specs.Prelude.{Option, Some, None}
+use Prim.Native.Nat.{ℕ, ◌≤◌, ◌<◌, min}
 use mathlib.Core.Bool.{Bool, true, false, ◌&&◌}
 use mathlib.Core.Path.{◌≡◌, refl, sym, ap, ◌∙◌}
 use native.Mathlib.Omega.{arith}
 use lib.Bits.{bit_and}
 use lib.Dec.{eqb, ltb}
 use lib.ListN.{length, length-set}
-use borrow.Author.Tests.{lt-ltb, le-ltb, ltb-false}
+use borrow.Author.Tests.{ltb-true, ltb-false}
 use Rattle.base.specs.Test.{pick}
 use Rattle.state.specs.declared.Range.{Range}
-use Rattle.state.specs.Parameter.{parameter_count}
-use Rattle.state.specs.Field.{value, position}
 use Rattle.state.specs.Valid.{within}
-use Rattle.text.specs.declared.Digits.{Digits}
-use Rattle.text.specs.declared.Digits.TheVariants as digits_read
 use Rattle.knowledge.specs.declared.Knowledge.{Knowledge}
 use Rattle.knowledge.specs.Sets.{only, flag_code}
 use Rattle.knowledge.specs.Knowledge.{code_at, dead, recoded, restricted, told, replacing}
 use Rattle.knowledge.proofs.Steps.{code_beyond, put_beyond}
-use Rattle.showing.specs.Shown.{offset_of, restricted_by, told_by}
+use Rattle.showing.specs.Shown.{restricted_by, told_by}
 
--- ---- `offset`
-pub offset_held : (i : ℕ) → i < parameter_count → (2 * i ≡ offset_of i) × (2 * i ≤ 2 * parameter_count)
-unfolding offset_of
-offset_held i h = (simp (lt-ltb i parameter_count h), omega arith)
+module _ (k : Knowledge) where
+  abbrev held : ℕ → ℕ
+  held p = min p (length k.codes)
 
-pub offset_beyond : (i : ℕ) → parameter_count ≤ i → (2 * parameter_count ≡ offset_of i) × (2 * parameter_count ≤ 2 * parameter_count)
-unfolding offset_of
-offset_beyond i h = (simp (le-ltb i parameter_count h), omega arith)
-
-pub ruleset offsets = (offset_held, offset_beyond)
-
--- ---- a step at the offset of a place is the step at the place
-module _ (k : Knowledge) (full : length k.codes ≡ position (value parameter_count)) where
-  placed : (step : ℕ → Knowledge) (l : Knowledge) → ((p : ℕ) → position (value parameter_count) ≤ p → step p ≡ l)
-      → (first i : ℕ) → position (value 0) ≤ first → step (first + offset_of i) ≡ step (first + 2 * i)
-  unfolding offset_of
-  placed step l h first i u = go (ltb i parameter_count) refl
+  placed : (step : ℕ → Knowledge) (l : Knowledge) → ((p : ℕ) → length k.codes ≤ p → step p ≡ l) → (p : ℕ) → step (held p) ≡ step p
+  placed step l h p = go (ltb p (length k.codes)) refl
     where
-      go : (t : Bool) → ltb i parameter_count ≡ t → step (first + 2 * pick t i parameter_count) ≡ step (first + 2 * i)
-      go true e = refl
+      go : (t : Bool) → ltb p (length k.codes) ≡ t → step (held p) ≡ step p
+      go true e =
+          let i : p < length k.codes = ltb-true p (length k.codes) e in
+          let z : held p ≡ p = omega arith in
+          ap step z
       go false e =
-          let m : parameter_count ≤ i = ltb-false i parameter_count e in
-          h (first + 2 * parameter_count) (omega arith) ∙ sym (h (first + 2 * i) (omega arith))
+          let m : length k.codes ≤ p = ltb-false p (length k.codes) e in
+          h (held p) (omega arith) ∙ sym (h p m)
 
-  pub put_placed : (c first i : ℕ) → position (value 0) ≤ first → recoded (first + offset_of i) c k ≡ recoded (first + 2 * i) c k
-  put_placed c = placed (λ p. recoded p c k) k (λ p h. sym (put_beyond k p _ full h c))
+  pub put_placed : (c p : ℕ) → recoded (held p) c k ≡ recoded p c k
+  put_placed c = placed (λ p. recoded p c k) k (λ p h. sym (put_beyond k p _ refl h c))
 
-  pub replace_placed : (n q first i : ℕ) → position (value 0) ≤ first → replacing (first + offset_of i) n q k ≡ replacing (first + 2 * i) n q k
+  pub replace_placed : (n q p : ℕ) → replacing (held p) n q k ≡ replacing p n q k
   unfolding replacing
   replace_placed n q =
       placed (λ p. replacing p n q k) (recoded q (flag_code n 0 (code_at q k)) k) (λ p h.
-      ap (λ (c : ℕ). recoded p n (recoded q (flag_code n c (code_at q k)) k)) (sym (code_beyond k p _ full h))
-      ∙ sym (put_beyond (recoded q (flag_code n 0 (code_at q k)) k) p _ (length-set k.codes q (flag_code n 0 (code_at q k)) ∙ full) h n))
+      ap (λ (c : ℕ). recoded p n (recoded q (flag_code n c (code_at q k)) k)) (sym (code_beyond k p _ refl h))
+      ∙ sym (put_beyond (recoded q (flag_code n 0 (code_at q k)) k) p _ (length-set k.codes q (flag_code n 0 (code_at q k))) h n))
 
-  pub restrict_placed : (m first i : ℕ) → position (value 0) ≤ first → restricted (first + offset_of i) m k ≡ restricted (first + 2 * i) m k
+  pub restrict_placed : (m p : ℕ) → restricted (held p) m k ≡ restricted p m k
   unfolding restricted
   restrict_placed m =
       placed (λ p. restricted p m k) (pick (eqb (bit_and 0 m) 0) (dead k) k) (λ p h.
-      ap (λ (c : ℕ). pick (eqb (bit_and c m) 0) (dead k) (recoded p (bit_and c m) k)) (sym (code_beyond k p _ full h))
-      ∙ ap (pick (eqb (bit_and 0 m) 0) (dead k)) (sym (put_beyond k p _ full h (bit_and 0 m))))
+      ap (λ (c : ℕ). pick (eqb (bit_and c m) 0) (dead k) (recoded p (bit_and c m) k)) (sym (code_beyond k p _ refl h))
+      ∙ ap (pick (eqb (bit_and 0 m) 0) (dead k)) (sym (put_beyond k p _ refl h (bit_and 0 m))))
 
-  pub restrict_by_placed : (g : Range) (d : Digits) (first i : ℕ) → position (value 0) ≤ first
-      → restricted_by (first + offset_of i) g d k ≡ restricted_by (first + 2 * i) g d k
-  restrict_by_placed g (digits_read.Number n) first i u = restrict_placed _ first i u
-  restrict_by_placed g digits_read.Nothing first i u = refl
+  pub restrict_by_placed : (g : Range) (d : Option ℕ) (p : ℕ) → restricted_by (held p) g d k ≡ restricted_by p g d k
+  restrict_by_placed g (Some n) p = restrict_placed _ p
+  restrict_by_placed g None p = refl
 
-  pub tell_by_placed : (g : Range) (d : Digits) (first i : ℕ) → position (value 0) ≤ first
-      → told_by (first + offset_of i) g d k ≡ told_by (first + 2 * i) g d k
+  pub tell_by_placed : (g : Range) (d : Option ℕ) (p : ℕ) → told_by (held p) g d k ≡ told_by p g d k
   unfolding told
-  tell_by_placed g (digits_read.Number n) first i u =
+  tell_by_placed g (Some n) p =
       placed (λ p. told p g n k) (pick (within g n && only 0 n) k (dead k)) (λ p h.
-      ap (λ (c : ℕ). pick (within g n && only c n) (recoded p n k) (dead k)) (sym (code_beyond k p _ full h))
-      ∙ ap (λ (l : Knowledge). pick (within g n && only 0 n) l (dead k)) (sym (put_beyond k p _ full h n))) first i u
-  tell_by_placed g digits_read.Nothing first i u = refl
+      ap (λ (c : ℕ). pick (within g n && only c n) (recoded p n k) (dead k)) (sym (code_beyond k p _ refl h))
+      ∙ ap (λ (l : Knowledge). pick (within g n && only 0 n) l (dead k)) (sym (put_beyond k p _ refl h n))) p
+  tell_by_placed g None p = refl

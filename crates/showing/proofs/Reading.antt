@@ -1,62 +1,57 @@
 -- Words and numbers in a reply: one law for each return of the functions that read them, and that a number stands behind a word exactly if it
 -- was printed there. Assumes nothing.
-use Prim.Native.Nat.{ℕ, ◌+◌, ◌-◌, ◌/◌, ◌%◌, ◌≤◌, ◌<◌, ◌*◌, ◌^◌}
-use mathlib.Core.Bool.{Bool, not, true, false, ◌&&◌, and-false}
+use Rattle.std.specs.Prelude.{Option, Some, None}
+use Prim.Native.Nat.{ℕ, ◌+◌, ◌≤◌, ◌<◌, ◌*◌, ◌^◌}
+use mathlib.Core.Bool.{Bool, true, false, ◌&&◌, and-false}
 use mathlib.Core.Path.{◌≡◌, sym, ap, ◌∙◌, refl}
 use mathlib.Core.List.{List, [], ◌∷◌, ◌++◌}
 use native.Mathlib.Omega.{arith}
 use lib.ListN.{length, take, drop, length-drop, length-append, take-append-drop}
-use lib.Seq.{take_all, take-append_seam, drop-append_seam}
+use lib.Seq.{take-append_seam, drop-append_seam}
 use lib.Dec.{eqb, leb}
-use borrow.Author.Tests.{eq-eqb, ne_eqb, not-true, not-false, eqb-true, le-leb}
+use lib.Pointwise.{pointwise}
+use borrow.Author.Tests.{eq-eqb, ne_eqb, eqb-true, le-leb}
 use Rattle.base.specs.Text.{text}
 use Rattle.base.specs.Test.{pick}
 use Rattle.base.proofs.Tests.{and_left, and_right}
 use Rattle.state.specs.Parameter.{code_at}
-use Rattle.text.specs.declared.Digits.{Digits}
-use Rattle.text.specs.declared.Digits.TheVariants as digits_read
+use Rattle.base.specs.Lists.{over_at}
+use Rattle.text.specs.Written.{written_at}
 use Rattle.text.specs.Word.{digits, equal, value_of, number_for}
 use Rattle.command.specs.Commands.{parameter_label}
-use Rattle.text.proofs.Words.{equal_true, digits-length, digits_all, value-digits, digits_value, value_below, equal-same, number-told}
-use Rattle.text.specs.declared.Digits.TheVariants.{Number, Nothing}
-use Rattle.showing.specs.Heard.{starts_with, number_behind}
+use Rattle.text.proofs.Words.{equal-pointwise, equal_true, digits-length, digits_all, value-digits, digits_value, value_below, equal-same, number-told}
+use Rattle.showing.specs.Heard.{number_behind}
 
 -- ---- `number_behind`
 module _ (w s : List ℕ) (width : ℕ) where
-  pub behind_length : (length s ≡ length w + width → ⊥) → digits_read.Nothing ≡ number_behind w width s
+  pub behind_length : (length s ≡ length w + width → ⊥) → None ≡ number_behind w width s
   unfolding number_behind
   behind_length h = simp (ne_eqb _ _ h)
 
-  module _ (l : length s ≡ length w + width) (b : Bool) (e : b ≡ starts_with w s) where
-    pub behind_other : not b ≡ true → digits_read.Nothing ≡ number_behind w width s
-    unfolding number_behind
-    behind_other h = simp (eq-eqb _ _ l, ← e, not-true b h)
+  pub behind_other : pointwise eqb (take (length w) s) w ≡ false → number_behind w width s ≡ None
+  unfolding number_behind
+  behind_other e = simp (sym (equal-pointwise (take (length w) s) w) ∙ e, and-false)
 
-    pub behind_word : (d : Digits) → not b ≡ false → d ≡ number_for (take (length s - length w) (drop (length w) s)) → d ≡ number_behind w width s
-    unfolding number_behind
-    behind_word d h z =
-        let r : take (length s - length w) (drop (length w) s) ≡ drop (length w) s
-        = take_all (length s - length w) (drop (length w) s) (omega (arith, length-drop (length w) s)) in
-        z ∙ (ap number_for r ∙ simp (eq-eqb _ _ l, ← e, not-false b h))
+  pub behind_word : length s ≡ length w + width → pointwise eqb (take (length w) s) w ≡ true → number_behind w width s ≡ number_for (drop (length w) s)
+  unfolding number_behind
+  behind_word l e = simp (eq-eqb _ _ l, sym (equal-pointwise (take (length w) s) w) ∙ e)
 
-pub ruleset behind-words = (behind_length, behind_other, behind_word)
+pub ruleset behind_words = (behind_length, behind_other, behind_word)
 
 -- ---- `parameter_label`
-pub label_printed : (x i n : ℕ) → n ≡ code_at i
-    → x ∷ 0x56 ∷ 0x20 ∷ (0x30 + n / 100 % 10) ∷ (0x30 + n / 10 % 10) ∷ (0x30 + n % 10) ∷ 0x20 ∷ [] ≡ parameter_label (x ∷ text "V ") i
-unfolding digits
-label_printed x i n q =
-    let e : n / 100 ≡ n / 10 / 10 = omega arith in
-    ap (λ (h : ℕ). x ∷ 0x56 ∷ 0x20 ∷ (0x30 + h % 10) ∷ (0x30 + n / 10 % 10) ∷ (0x30 + n % 10) ∷ 0x20 ∷ []) e ∙ ap (λ (c : ℕ). (x ∷ text "V ") ++ (digits 3 c ++ (0x20 ∷ []))) q
+pub label_printed : (x i m n : ℕ) (l o : List ℕ) → n ≡ code_at i → o ≡ x ∷ 0x56 ∷ 0x20 ∷ 0x30 ∷ 0x30 ∷ 0x30 ∷ 0x20 ∷ [] → (m, l) ≡ written_at 3 (digits 3 n) o
+    → l ≡ parameter_label (x ∷ text "V ") i
+unfolding digits written_at over_at
+label_printed x i m n l o q start h = ap (λ (p : ℕ × List ℕ). p.1) h ∙ (ap (λ (y : List ℕ). (written_at 3 (digits 3 n) y).1) start ∙ ap (λ (c : ℕ). (x ∷ text "V ") ++ (digits 3 c ++ (0x20 ∷ []))) q)
 
 -- what was read, if a test let anything be read
-picked : (t : Bool) (d : Digits) (n : ℕ) → pick t d Nothing ≡ Number n → (t ≡ true) × (d ≡ Number n)
+picked : (t : Bool) (d : Option ℕ) (n : ℕ) → pick t d None ≡ Some n → (t ≡ true) × (d ≡ Some n)
 picked true d n e = (refl, e)
 picked false d n e = let z : ◌≡◌ {A = ℕ} 0 1 = cc in absurd (omega arith)
 
 -- ---- a number that was read is the number printed
 module _ (w : List ℕ) (width : ℕ) where
-  pub behind_told : (b : List ℕ) (n : ℕ) → number_behind w width b ≡ Number n → (b ≡ w ++ digits width n) × (n < 10 ^ width)
+  pub behind_told : (b : List ℕ) (n : ℕ) → number_behind w width b ≡ Some n → (b ≡ w ++ digits width n) × (n < 10 ^ width)
   unfolding number_behind
   behind_told b n e =
       let i = picked (eqb (length b) (length w + width) && equal (take (length w) b) w) (number_for (drop (length w) b)) n e in
@@ -73,7 +68,7 @@ module _ (w : List ℕ) (width : ℕ) where
       )
 
   -- ---- a number that was printed is read
-  pub behind_left : (n : ℕ) → width ≤ 8 → n < 10 ^ width → number_behind w width (w ++ digits width n) ≡ Number n
+  pub behind_left : (n : ℕ) → width ≤ 8 → n < 10 ^ width → number_behind w width (w ++ digits width n) ≡ Some n
   unfolding number_behind number_for
   behind_left n h l =
       let e : length (w ++ digits width n) ≡ length w + width = omega (arith, length-append w (digits width n), digits-length width n) in
@@ -81,6 +76,6 @@ module _ (w : List ℕ) (width : ℕ) where
       simp (eq-eqb _ _ e, take-append_seam w (digits width n), equal-same w, drop-append_seam w (digits width n), s, digits_all width n, value-digits width n)
 
   -- where another word stands there is no number
-  pub behind_none : (b : List ℕ) → equal (take (length w) b) w ≡ false → number_behind w width b ≡ Nothing
+  pub behind_none : (b : List ℕ) → equal (take (length w) b) w ≡ false → number_behind w width b ≡ None
   unfolding number_behind
   behind_none b e = simp (e, and-false)

@@ -8,31 +8,20 @@ use mathlib.Core.List.{List, [], ◌∷◌, map}
 use native.Mathlib.Omega.{arith}
 use lib.Bits.{bit_and}
 use lib.Dec.{eqb}
+use lib.Pointwise.{pointwise}
 use lib.ListN.{length, get_or, drop}
-use borrow.Author.Tests.{eq-eqb, ne_eqb, not-true, not-false, eqb-true}
-use Rattle.base.specs.Test.{pick}
+use borrow.Author.Tests.{eq-eqb, not-true, eqb-true}
 use Rattle.base.proofs.Tests.{by_test, same, same_as, and_right, all_below, holds_below, and_yes, and_left}
 use Rattle.state.specs.declared.Record.{Record}
 use Rattle.state.specs.Field.{flag_number, listed}
 use Rattle.state.proofs.Whole.{listed_same}
-use Rattle.text.specs.Word.{equal}
 use Rattle.command.specs.Status.{Bit, first, second, third, fourth, characters, passes, weight_in, status_characters}
 use Rattle.knowledge.specs.declared.Knowledge.{Knowledge}
-use Rattle.knowledge.specs.Knowledge.{dead, restricted}
+use Rattle.knowledge.specs.Knowledge.{dead}
 use Rattle.knowledge.proofs.Possible.{Kept}
 use Rattle.showing.specs.Heard.{lit, weight_lit, characters_formed}
 use Rattle.showing.specs.Shown.{bits_shown, characters_shown, status_shown, test_shown}
 use Rattle.showing.proofs.Fields.{Shows, all_shown, shown_as, both_shown, unless-shown, is_small, Tested, small_tested, alarm_tested, test_shown_lem}
-
--- ---- `show_bit`
-module _ (p x w m n : ℕ) (k r : Knowledge) where
-  pub bit-set : bit_and x w ≡ w → r ≡ restricted p m k → r ≡ restricted p (pick (lit w x) m n) k
-  bit-set h e = e ∙ sym (ap (λ (t : Bool). restricted p (pick t m n) k) (eq-eqb _ _ h))
-
-  pub bit_clear : (bit_and x w ≡ w → ⊥) → r ≡ restricted p n k → r ≡ restricted p (pick (lit w x) m n) k
-  bit_clear h e = e ∙ sym (ap (λ (t : Bool). restricted p (pick t m n) k) (ne_eqb _ _ h))
-
-pub ruleset bits-read = (bit-set, bit_clear)
 
 -- ---- `show_first`, `show_second`, `show_third`, `show_fourth`: one bit behind another
 module _ (x : ℕ) (b : Bit) (bs : List Bit) (k l r : Knowledge) where
@@ -44,7 +33,7 @@ pub none-shown : (x : ℕ) (k : Knowledge) → k ≡ bits_shown x [] k
 unfolding bits_shown
 none-shown x k = refl
 
-pub ruleset bits-told = (bit-shown, none-shown)
+pub ruleset bits_told = (bit-shown, none-shown)
 
 -- ---- `characters_formed`
 
@@ -55,19 +44,13 @@ both m bs x = same (eqb (bit_and x m) 0x30) (eqb x (0x30 + weight_lit x bs))
 others : (m : ℕ) (bs : List Bit) → all_below (both m bs) 256 ≡ true → (x : ℕ) → x < 256 → eqb (bit_and x m) 0x30 ≡ eqb x (0x30 + weight_lit x bs)
 others m bs h x l = same_as _ _ (holds_below (both m bs) 256 h x l)
 
-pub six_formed : (r : Bool) (a b c d e f : ℕ) → a < 256 → b < 256 → c < 256 → d < 256
-    → r ≡ equal (bit_and a 0xf0 ∷ bit_and b 0xf1 ∷ bit_and c 0xfe ∷ bit_and d 0xf6 ∷ e ∷ f ∷ []) (0x30 ∷ 0x30 ∷ 0x30 ∷ 0x30 ∷ 0x30 ∷ 0x30 ∷ [])
-    → r ≡ characters_formed (a ∷ b ∷ c ∷ d ∷ e ∷ f ∷ []) characters
-unfolding equal characters_formed weight_lit
-six_formed r a b c d e f l m o n h = h ∙ simp (others 0xf0 first refl a l, others 0xf1 second refl b m, others 0xfe third refl c o, others 0xf6 fourth refl d n)
-
--- ---- `show_status`
-formed-length : (xs : List ℕ) (bss : List (List Bit)) → characters_formed xs bss ≡ true → length xs ≡ length bss
+-- as many as there are lists of bits
+formed_length : (xs : List ℕ) (bss : List (List Bit)) → characters_formed xs bss ≡ true → length xs ≡ length bss
 unfolding characters_formed
-formed-length [] [] h = refl
-formed-length [] (bs ∷ bss) h = absurd (false≢true h)
-formed-length (x ∷ xs) [] h = absurd (false≢true h)
-formed-length (x ∷ xs) (bs ∷ bss) h = ap suc (formed-length xs bss (and_right (eqb x (0x30 + weight_lit x bs)) _ h))
+formed_length [] [] h = refl
+formed_length [] (bs ∷ bss) h = absurd (false≢true h)
+formed_length (x ∷ xs) [] h = absurd (false≢true h)
+formed_length (x ∷ xs) (bs ∷ bss) h = ap suc (formed_length xs bss (and_right (eqb x (0x30 + weight_lit x bs)) _ h))
 
 abbrev first_six : List ℕ → List ℕ
 first_six s = get_or s 0 0 ∷ get_or s 1 0 ∷ get_or s 2 0 ∷ get_or s 3 0 ∷ get_or s 4 0 ∷ get_or s 5 0 ∷ []
@@ -76,27 +59,38 @@ six : (s : List ℕ) → length s ≡ 6 → first_six s ≡ s
 unfolding listed
 six s e = listed_same s 6 e
 
-module _ (s : List ℕ) (k r : Knowledge) where
-  pub status-length : (length s ≡ 6 → ⊥) → r ≡ dead k → r ≡ status_shown s k
+module _ (s : List ℕ) where
+  pub formed_six : characters_formed s characters ≡ true → length s ≡ 6
+  formed_six = formed_length s characters
+
+  pub formed_other : (length s ≡ 6 → ⊥) → characters_formed s characters ≡ false
+  formed_other h = by_test (characters_formed s characters) (λ e. absurd (h (formed_six e))) (λ e. e)
+
+  pub six_formed : length s ≡ 6 → get_or s 0 0 < 256 → get_or s 1 0 < 256 → get_or s 2 0 < 256 → get_or s 3 0 < 256
+      → characters_formed s characters
+      ≡ pointwise eqb (bit_and (get_or s 0 0) 0xf0 ∷ bit_and (get_or s 1 0) 0xf1 ∷ bit_and (get_or s 2 0) 0xfe ∷ bit_and (get_or s 3 0) 0xf6 ∷ get_or s 4 0 ∷ get_or s 5 0 ∷ [])
+      (0x30 ∷ 0x30 ∷ 0x30 ∷ 0x30 ∷ 0x30 ∷ 0x30 ∷ [])
+  unfolding characters_formed weight_lit
+  six_formed e l m n o =
+      ap (λ (xs : List ℕ). characters_formed xs characters) (sym (six s e))
+      ∙ simp (sym (others 0xf0 first refl (get_or s 0 0) l), sym (others 0xf1 second refl (get_or s 1 0) m), sym (others 0xfe third refl (get_or s 2 0) n), sym (others 0xf6 fourth refl (get_or s 3 0) o))
+
+pub ruleset formed = (formed_six, formed_other, six_formed)
+
+-- ---- `show_status`
+module _ (s : List ℕ) (k : Knowledge) where
+  pub status_wrong : characters_formed s characters ≡ false → status_shown s k ≡ dead k
   unfolding status_shown
-  status-length h z = by_test (characters_formed s characters) (λ e. absurd (h (formed-length s characters e))) (λ e. z ∙ simp e)
+  status_wrong h = simp h
 
-  module _ (t : Bool) (l : length s ≡ 6)
-      (f : t ≡ characters_formed (get_or s 0 0 ∷ get_or s 1 0 ∷ get_or s 2 0 ∷ get_or s 3 0 ∷ get_or s 4 0 ∷ get_or s 5 0 ∷ []) characters) where
-    pub status_wrong : not t ≡ true → r ≡ dead k → r ≡ status_shown s k
-    unfolding status_shown
-    status_wrong h z =
-        let u : dead k ≡ status_shown (first_six s) k = simp (← f, not-true t h) in
-        z ∙ (u ∙ ap (λ (b : List ℕ). status_shown b k) (six s l))
+  pub status_read : characters_formed s characters ≡ true
+      → status_shown s k ≡ bits_shown (get_or s 3 0) fourth (bits_shown (get_or s 2 0) third (bits_shown (get_or s 1 0) second (bits_shown (get_or s 0 0) first k)))
+  unfolding status_shown characters_shown bits_shown
+  status_read h =
+      let u : characters_shown (first_six s) characters k ≡ characters_shown s characters k = ap (λ (xs : List ℕ). characters_shown xs characters k) (six s (formed_six s h)) in
+      simp h (sym u)
 
-    pub status_read : (a b c : Knowledge) → not t ≡ false → a ≡ bits_shown (get_or s 0 0) first k → b ≡ bits_shown (get_or s 1 0) second a
-        → c ≡ bits_shown (get_or s 2 0) third b → r ≡ bits_shown (get_or s 3 0) fourth c → r ≡ status_shown s k
-    unfolding status_shown characters_shown bits_shown
-    status_read a b c h x y w z =
-        let u : characters_shown (first_six s) characters k ≡ status_shown (first_six s) k = simp (← f, not-false t h) in
-        z ∙ (ap (bits_shown (get_or s 3 0) fourth) (w ∙ ap (bits_shown (get_or s 2 0) third) (y ∙ ap (bits_shown (get_or s 1 0) second) x)) ∙ (u ∙ ap (λ (b : List ℕ). status_shown b k) (six s l)))
-
-pub ruleset status-known = (status-length, status_wrong, status_read)
+pub ruleset status_known = (status_wrong, status_read)
 
 -- ---- the bits of a character, and the tests that they tell
 abbrev Telling : Record → ℕ → List Bit → Type 0

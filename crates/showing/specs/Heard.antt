@@ -1,10 +1,8 @@
 -- What a recorded reply says, behind its address digits.
-use Rattle.std.specs.Prelude.{ℕ, ◌+◌, ◌-◌, ◌*◌, ◌^◌, Bool, true, false, ◌&&◌, List, [], ◌∷◌, eqb, length, take, drop}
+use Rattle.std.specs.Prelude.{ℕ, ◌+◌, ◌-◌, ◌*◌, ◌^◌, Bool, true, false, ◌&&◌, Option, Some, None, List, [], ◌∷◌, eqb, length, take, drop}
 use Rattle.std.specs.Int.Bits.{bit_and}
 use Rattle.base.specs.Text.{text}
 use Rattle.base.specs.Test.{pick, unless, between}
-use Rattle.text.specs.declared.Digits.{Digits}
-use Rattle.text.specs.declared.Digits.TheVariants.{Number, Nothing}
 use Rattle.state.specs.Alarm.{character_widths}
 use Rattle.state.specs.Field.{flag_number}
 use Rattle.text.specs.Word.{equal, number_for}
@@ -15,11 +13,11 @@ abbrev pub starts_with : List ℕ → List ℕ → Bool
 starts_with w b = equal (take (length w) b) w
 
 -- a number of so many digits behind a word, and nothing else
-unfoldable pub number_behind : List ℕ → ℕ → List ℕ → Digits
-number_behind w width b = pick (eqb (length b) (length w + width) && starts_with w b) (number_for (drop (length w) b)) Nothing
+unfoldable pub number_behind : List ℕ → ℕ → List ℕ → Option ℕ
+number_behind w width b = pick (eqb (length b) (length w + width) && starts_with w b) (number_for (drop (length w) b)) None
 
 -- "reply NO and two digits"
-abbrev pub refusal_in : List ℕ → Digits
+abbrev pub refusal_in : List ℕ → Option ℕ
 refusal_in b = number_behind (text "NO") 2 b
 
 -- ---- EQ: a character for each list of bits, 0x30 and the weights of those that are set; no other bit is set
@@ -39,11 +37,11 @@ characters_formed (x ∷ xs) [] = false
 characters_formed (x ∷ xs) (bs ∷ bss) = eqb x (0x30 + weight_lit x bs) && characters_formed xs bss
 
 -- ---- EA: the alarms that characters are, behind those that make a; each has so many bits as it shows alarms, and no other is set
-unfoldable pub alarms_from : ℕ → List ℕ → List ℕ → Digits
-alarms_from a [] [] = Number a
-alarms_from a [] (x ∷ xs) = Nothing
-alarms_from a (w ∷ ws) [] = Nothing
-alarms_from a (w ∷ ws) (x ∷ xs) = unless (between 0x30 (0x30 + (2 ^ w - 1)) x) Nothing (alarms_from (a * 2 ^ w + (x - 0x30)) ws xs)
+unfoldable pub alarms_from : ℕ → List ℕ → List ℕ → Option ℕ
+alarms_from a [] [] = Some a
+alarms_from a [] (x ∷ xs) = None
+alarms_from a (w ∷ ws) [] = None
+alarms_from a (w ∷ ws) (x ∷ xs) = unless (between 0x30 (0x30 + (2 ^ w - 1)) x) None (alarms_from (a * 2 ^ w + (x - 0x30)) ws xs)
 
-abbrev pub alarms_read : List ℕ → Digits
+abbrev pub alarms_read : List ℕ → Option ℕ
 alarms_read b = alarms_from 0 character_widths b

@@ -1,25 +1,17 @@
 -- What the reply to an accepted request shows, by what the tables print.
-use Rattle.std.specs.Prelude.{ℕ, ◌*◌, Bool, not, ◌&&◌, List, [], ◌∷◌, ◌++◌, eqb, ltb, length, take, drop}
+use Rattle.std.specs.Prelude.{ℕ, Bool, not, ◌&&◌, Option, Some, None, List, [], ◌∷◌, ◌++◌, eqb, length, take, drop}
 use Rattle.base.specs.Text.{text}
 use Rattle.base.specs.Test.{pick, unless}
 use Rattle.state.specs.declared.Range.{Range}
-use Rattle.state.specs.Parameter.{parameter_count}
 use Rattle.state.specs.Field.{Field, recipe, alarms, value, position, field_range}
 use Rattle.state.specs.Valid.{within}
-use Rattle.text.specs.declared.Digits.{Digits}
-use Rattle.text.specs.declared.Digits.TheVariants as digits_read
 use Rattle.text.specs.Word.{space, equal}
 use Rattle.command.specs.Status.{Test, Bit, characters, Code, status_codes}
 use Rattle.command.specs.Commands.{factor_place, Reply, acknowledged, status, codes, numbered, composition, system_alarms}
 use Rattle.knowledge.specs.declared.Knowledge.{Knowledge}
 use Rattle.knowledge.specs.Sets.{Kind, several, single, alarmed, kind_of, mask_of, mask_in}
 use Rattle.knowledge.specs.Knowledge.{dead, restricted, told, settled}
-use Rattle.showing.specs.declared.Walk.{Walk}
 use Rattle.showing.specs.Heard.{starts_with, number_behind, lit, characters_formed, alarms_read}
-
--- how far a parameter's value stands behind that of the first, and its level likewise; all places beyond the last are one
-unfoldable pub offset_of : ℕ → ℕ
-offset_of i = 2 * pick (ltb i parameter_count) i parameter_count
 
 -- ---- a test of one field that holds, or does not, as shown
 abbrev pub test_shown : Bool → Test → Knowledge → Knowledge
@@ -28,33 +20,33 @@ test_shown b t k = restricted (position t.field) (pick b (mask_in t.field t.hold
 -- ---- numbers
 
 -- a field holds the number that is shown
-abbrev pub restricted_by : ℕ → Range → Digits → Knowledge → Knowledge
-restricted_by p range (digits_read.Number n) k = restricted p (mask_of (λ i. within range i && eqb i n)) k
-restricted_by p range digits_read.Nothing k = dead k
+abbrev pub restricted_by : ℕ → Range → Option ℕ → Knowledge → Knowledge
+restricted_by p range (Some n) k = restricted p (mask_of (λ i. within range i && eqb i n)) k
+restricted_by p range None k = dead k
 
-abbrev pub told_by : ℕ → Range → Digits → Knowledge → Knowledge
-told_by p range (digits_read.Number n) k = told p range n k
-told_by p range digits_read.Nothing k = dead k
+abbrev pub told_by : ℕ → Range → Option ℕ → Knowledge → Knowledge
+told_by p range (Some n) k = told p range n k
+told_by p range None k = dead k
 
-abbrev pub settled_by : Field → Digits → Knowledge → Knowledge
-settled_by f (digits_read.Number n) k = settled f n k
-settled_by f digits_read.Nothing k = dead k
+abbrev pub settled_by : Field → Option ℕ → Knowledge → Knowledge
+settled_by f (Some n) k = settled f n k
+settled_by f None k = dead k
 
-abbrev pub number_by : Kind → Field → Digits → Knowledge → Knowledge
+abbrev pub number_by : Kind → Field → Option ℕ → Knowledge → Knowledge
 number_by several f d k = restricted_by (position f) (field_range f) d k
 number_by single f d k = told_by (position f) (field_range f) d k
 number_by alarmed f d k = settled_by f d k
 
-abbrev pub number_shown : Field → Digits → Knowledge → Knowledge
+abbrev pub number_shown : Field → Option ℕ → Knowledge → Knowledge
 number_shown f d k = number_by (kind_of f) f d k
 
 -- "RC rr vvvvvvvv, recipe and its factor now"
-abbrev pub factor_shown : ℕ → Digits → Knowledge → Knowledge
-factor_shown r d k = unless (within (field_range recipe) r) (dead k) (number_shown (value (factor_place r)) d (number_shown recipe (digits_read.Number r) k))
+abbrev pub factor_shown : ℕ → Option ℕ → Knowledge → Knowledge
+factor_shown r d k = unless (within (field_range recipe) r) (dead k) (number_shown (value (factor_place r)) d (number_shown recipe (Some r) k))
 
-abbrev pub composition_shown : Digits → Digits → Knowledge → Knowledge
-composition_shown (digits_read.Number r) d k = factor_shown r d k
-composition_shown digits_read.Nothing d k = dead k
+abbrev pub composition_shown : Option ℕ → Option ℕ → Knowledge → Knowledge
+composition_shown (Some r) d k = factor_shown r d k
+composition_shown None d k = dead k
 
 -- ---- EQ: a bit that is set, or not, tells whether its test holds
 unfoldable pub bits_shown : ℕ → List Bit → Knowledge → Knowledge
@@ -75,10 +67,6 @@ status_shown b k = unless (characters_formed b characters) (dead k) (characters_
 unfoldable pub word_shown : List ℕ → ℕ → ℕ → ℕ → List ℕ × Knowledge → List ℕ × Knowledge
 word_shown w p with without x =
     (pick (starts_with w x.0) (drop (length w) x.0) x.0, restricted p (pick (starts_with w x.0) with without) x.1)
-
--- the same of the code's walk through a text
-abbrev pub left_of : List ℕ → Walk → List ℕ × Knowledge
-left_of b s = (drop s.at b, s.known)
 
 abbrev pub printed_code : Code → List ℕ
 printed_code c = c.letters ++ (space ∷ [])

@@ -13,7 +13,7 @@ use Rattle.text.specs.Word.{digits, value_of}
 use Rattle.text.proofs.Words.{value-digits}
 use Rattle.state.specs.declared.Record.{Record}
 use Rattle.state.specs.declared.Range.{Range}
-use Rattle.state.specs.declared.Place.TheVariants.{At}
+use Rattle.std.specs.Prelude.{Some}
 use Rattle.state.specs.declared.ParameterKind.TheVariants.{Factor}
 use Rattle.state.specs.Parameter.{of_recipe, code_of, kind_range, recipes, range_at, place_of}
 use Rattle.state.specs.Field.{Field, address, phase, reset, recipe, preset, raw, number, value, get, field_range, position, on}
@@ -45,7 +45,7 @@ module _ (r : ℕ) (h : within (field_range recipe) r ≡ true) where
   pub recipe_high : r ≤ recipes
   recipe_high = between_high _ _ r h
 
-  pub factor_place_lem : place_of (code_of (of_recipe r Factor)) ≡ At (factor_place r)
+  pub factor_place_lem : place_of (code_of (of_recipe r Factor)) ≡ Some (factor_place r)
   factor_place_lem =
       let c : ℕ = code_of (of_recipe r Factor) in
       let few = recipe_high in

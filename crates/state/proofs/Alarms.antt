@@ -7,7 +7,7 @@ use mathlib.Core.List.{map}
 use native.Mathlib.Omega.{arith}
 use lib.Bits.{bit_and, bit_or, and_step, and_zero_l, and_shr, or_shr, and_le_l, and_le_r, or_lt}
 use lib.Dec.{eqb, leb}
-use borrow.Author.Tests.{leb-true, not-true, not-false}
+use borrow.Author.Tests.{leb-true, not-false}
 use Rattle.base.specs.Test.{pick, member}
 use Rattle.text.specs.Word.{equal}
 use Rattle.base.proofs.Bits.{low_and, low_or}
@@ -61,23 +61,19 @@ weight_below k l h =
     let c : alarm_count - k < alarm_count = omega arith in
     leb-true _ _ (holds_below (λ (j : ℕ). leb (2 ^ j) all_alarms) alarm_count refl (alarm_count - k) c)
 
--- the bit of a number, if it is an alarm's: 1 shifted as far as the last alarm is away, as the code has it
-module _ (k : ℕ) (t : Bool) (e : t ≡ is_alarm k) where
-  pub no_bit : not t ≡ true → (0 ≡ pick (is_alarm k) (weight_of k) 0) × (0 ≤ all_alarms)
-  no_bit o = (simp (sym e ∙ not-true t o), omega arith)
+-- the bit of an alarm's number: 1 shifted as far as the last alarm is away, as the code has it
+module _ (k : ℕ) (t : Bool) (e : t ≡ is_alarm k) (i : not t ≡ false) where
+  numbered : is_alarm k ≡ true
+  numbered = sym e ∙ not-false t i
 
-  module _ (i : not t ≡ false) where
-    numbered : is_alarm k ≡ true
-    numbered = sym e ∙ not-false t i
+  pub number_high : k ≤ alarm_count
+  number_high = between_high 1 alarm_count k numbered
 
-    pub number_high : k ≤ alarm_count
-    number_high = between_high 1 alarm_count k numbered
-
-    pub own_bit : ((1 * 2 ^ (alarm_count - k)) % 2 ^ 32 ≡ pick (is_alarm k) (weight_of k) 0) × ((1 * 2 ^ (alarm_count - k)) % 2 ^ 32 ≤ all_alarms)
-    own_bit =
-        let w = weight_below k (between_low 1 alarm_count k numbered) number_high in
-        let s : (1 * 2 ^ (alarm_count - k)) % 2 ^ 32 ≡ weight_of k = omega arith in
-        (s ∙ simp numbered, omega arith)
+  pub own_bit : ((1 * 2 ^ (alarm_count - k)) % 2 ^ 32 ≡ pick (is_alarm k) (weight_of k) 0) × ((1 * 2 ^ (alarm_count - k)) % 2 ^ 32 ≤ all_alarms)
+  own_bit =
+      let w = weight_below k (between_low 1 alarm_count k numbered) number_high in
+      let s : (1 * 2 ^ (alarm_count - k)) % 2 ^ 32 ≡ weight_of k = omega arith in
+      (s ∙ simp numbered, omega arith)
 
 raised_below : (k n : ℕ) → 1 ≤ k → k ≤ alarm_count → n ≤ all_alarms → raised k n ≤ all_alarms
 raised_below k n l h m = let w = weight_below k l h in let o = or_lt alarm_count n (weight_of k) (omega arith) (omega arith) in omega arith

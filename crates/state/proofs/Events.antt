@@ -1,7 +1,8 @@
 -- What the code's returns give is what the definitions of the panel's events say; and a valid record stays valid. Assumes nothing.
 use Prim.Native.Nat.{ℕ, ◌+◌, ◌-◌, ◌%◌, ◌≤◌, ◌<◌}
-use mathlib.Core.Bool.{Bool, true, false, not, ◌||◌}
+use mathlib.Core.Bool.{Bool, true, false, not}
 use mathlib.Core.Path.{◌≡◌, refl, sym, ap, ◌∙◌}
+use mathlib.Core.Logic.{◌⊎◌, ⊎_elim}
 use lib.Bits.{bit_and, bit_or, or_zero_r, and_mask}
 use lib.Dec.{eqb}
 use borrow.Author.Tests.{eq-eqb, ne_eqb, le-leb, lt-leb, not-true, not-false}
@@ -9,15 +10,20 @@ use native.Mathlib.Omega.{arith}
 use Rattle.base.specs.Test.{pick}
 use Rattle.base.proofs.Tests.{by_test}
 use Rattle.state.specs.declared.Phase.{Phase}
-use Rattle.state.specs.declared.Phase.TheVariants.{Idle, Running}
+use Rattle.state.specs.declared.Phase.TheVariants.{Idle, Running, Done}
 use Rattle.state.specs.declared.Event.{Event}
 use Rattle.state.specs.declared.Event.TheVariants.{Pulses, KeypadOn, PowerBack, AlarmOn, AlarmOff}
 use Rattle.state.specs.declared.Record.{Record}
 use Rattle.state.specs.Alarm.{alarm_count, is_alarm, weight_of, all_alarms, raised, cleared, lasting}
-use Rattle.state.specs.Field.{phase, keypad, flow, reset, powerfail, preset, raw, number, alarms, put, field_range, phase_number, on, off}
+use Rattle.state.specs.Field.{phase, keypad, flow, reset, powerfail, preset, raw, number, alarms, put, field_range, phase_number, phase_of, on, off}
 use Rattle.state.specs.Valid.{valid}
-use Rattle.state.specs.Event.{idle, set, running, stopped, done, pulses, power_back, keypad_on, alarm_changed, happened, after, next_number, batch_set, alarms_reset}
+use Rattle.state.specs.Event.{set, stopped, done, pulses, power_back, keypad_on, alarm_changed, happened, after, next_number, batch_set, alarms_reset}
+use Rattle.state.proofs.Fields.{phase_back}
 use Rattle.state.proofs.Validity.{valid_tell}
+
+-- phases have different numbers
+other-phase : (p q : Phase) → (p ≡ q → ⊥) → eqb (phase_number p) (phase_number q) ≡ false
+other-phase p q h = ne_eqb (phase_number p) (phase_number q) (λ e. h (sym (phase_back p) ∙ (ap phase_of e ∙ phase_back q)))
 
 module _ (r : Record) (b : Bool) (v : b ≡ valid r) where
   pub after_invalid : (e : Event) → not b ≡ true → r ≡ after e r
@@ -34,42 +40,44 @@ module _ (r : Record) (b : Bool) (v : b ≡ valid r) where
     unfolding pulses
     pulses-none k z = after_valid (Pulses k) r (simp (eq-eqb k 0 z))
 
-    module _ (k : ℕ) (some : k ≡ 0 → ⊥) (p : Phase) (at : r.phase ≡ p) where
-      pub pulses-idle : (s : Record) → p ≡ Idle → s ≡ put flow on r → s ≡ after (Pulses k) r
+    -- m is the count in another width
+    module _ (k m : ℕ) (same : m ≡ k) (some : k ≡ 0 → ⊥) where
+      pub pulses-idle : (s : Record) → r.phase ≡ Idle → s ≡ put flow on r → s ≡ after (Pulses k) r
       unfolding pulses
-      pulses-idle s i e = after_valid (Pulses k) s (e ∙ simp (ne_eqb k 0 some, at ∙ i))
+      pulses-idle s i e = after_valid (Pulses k) s (e ∙ simp (ne_eqb k 0 some, i))
 
-      pub pulses-counted : (s : Record) → eqb (phase_number p) idle ≡ false → eqb (phase_number p) running ≡ false
-          → s ≡ put raw ((r.raw + k) % 100000000) (put flow on r) → s ≡ after (Pulses k) r
+      pub pulses-counted : (s : Record) → (r.phase ≡ Idle → ⊥) → (r.phase ≡ Running → ⊥) → s ≡ put raw ((r.raw + m) % 100000000) (put flow on r)
+          → s ≡ after (Pulses k) r
       unfolding pulses put
-      pulses-counted s i g e = after_valid (Pulses k) s (e ∙ simp (ne_eqb k 0 some, at, i, g))
+      pulses-counted s i g e = after_valid (Pulses k) s (e ∙ simp (same, ne_eqb k 0 some, other-phase r.phase Idle i, other-phase r.phase Running g))
 
-      pub pulses-short : (s : Record) → p ≡ Running → r.raw + k < r.preset → s ≡ put raw ((r.raw + k) % 100000000) (put flow on r) → s ≡ after (Pulses k) r
+      pub pulses-short : (s : Record) → r.phase ≡ Running → r.raw + m < r.preset → s ≡ put raw ((r.raw + m) % 100000000) (put flow on r)
+          → s ≡ after (Pulses k) r
       unfolding pulses put
-      pulses-short s i l e = after_valid (Pulses k) s (e ∙ simp (ne_eqb k 0 some, at ∙ i, lt-leb r.preset (r.raw + k) l))
+      pulses-short s i l e = after_valid (Pulses k) s (e ∙ simp (same, ne_eqb k 0 some, i, lt-leb r.preset (r.raw + k) (omega arith)))
 
-      pub pulses-done : (s t : Record) → p ≡ Running → r.preset ≤ r.raw + k → t ≡ put raw ((r.raw + k) % 100000000) (put flow on r)
-          → s ≡ put phase done t → s ≡ after (Pulses k) r
+      pub pulses-done : (s : Record) → r.phase ≡ Running → r.preset ≤ r.raw + m
+          → s ≡ put phase done (put raw ((r.raw + m) % 100000000) (put flow on r)) → s ≡ after (Pulses k) r
       unfolding pulses put
-      pulses-done s t i l q e = after_valid (Pulses k) s (e ∙ (ap (put phase done) q ∙ simp (ne_eqb k 0 some, at ∙ i, le-leb r.preset (r.raw + k) l)))
+      pulses-done s i l e = after_valid (Pulses k) s (e ∙ simp (same, ne_eqb k 0 some, i, le-leb r.preset (r.raw + k) (omega arith)))
 
     -- ---- the keypad and the power, by the phase
-    module _ (p : Phase) (at : r.phase ≡ p) where
-      pub keypad_taken : (s : Record) → (eqb (phase_number p) idle || eqb (phase_number p) done) ≡ true → s ≡ put keypad on r → s ≡ after KeypadOn r
-      unfolding keypad_on
-      keypad_taken s t e = after_valid KeypadOn s (e ∙ simp (at, t))
+    pub keypad_taken : (s : Record) → (r.phase ≡ Idle) ⊎ (r.phase ≡ Done) → s ≡ put keypad on r → s ≡ after KeypadOn r
+    unfolding keypad_on
+    keypad_taken s t e =
+        after_valid KeypadOn s (e ∙ ⊎_elim (λ (i : r.phase ≡ Idle). simp i) (λ (d : r.phase ≡ Done). simp d) t)
 
-      pub keypad_kept : (eqb (phase_number p) idle || eqb (phase_number p) done) ≡ false → r ≡ after KeypadOn r
-      unfolding keypad_on
-      keypad_kept t = after_valid KeypadOn r (simp (at, t))
+    pub keypad_kept : (r.phase ≡ Idle → ⊥) → (r.phase ≡ Done → ⊥) → r ≡ after KeypadOn r
+    unfolding keypad_on
+    keypad_kept i d = after_valid KeypadOn r (simp (other-phase r.phase Idle i, other-phase r.phase Done d))
 
-      pub power_kept : (s : Record) → eqb (phase_number p) running ≡ false → s ≡ put powerfail on (put flow off r) → s ≡ after PowerBack r
-      unfolding power_back
-      power_kept s t e = after_valid PowerBack s (e ∙ simp (at, t))
+    pub power_kept : (s : Record) → (r.phase ≡ Running → ⊥) → s ≡ put powerfail on (put flow off r) → s ≡ after PowerBack r
+    unfolding power_back
+    power_kept s g e = after_valid PowerBack s (e ∙ simp (other-phase r.phase Running g))
 
-      pub power_stopped : (s : Record) → p ≡ Running → s ≡ put phase stopped (put powerfail on (put flow off r)) → s ≡ after PowerBack r
-      unfolding power_back put
-      power_stopped s t e = after_valid PowerBack s (e ∙ simp (at ∙ t))
+    pub power_stopped : (s : Record) → r.phase ≡ Running → s ≡ put phase stopped (put powerfail on (put flow off r)) → s ≡ after PowerBack r
+    unfolding power_back put
+    power_stopped s g e = after_valid PowerBack s (e ∙ simp g)
 
 -- ---- an alarm: m are the alarms afterwards, those of the change if the number is an alarm's
 alarms_with : (r s : Record) (k m : ℕ) (change : ℕ → ℕ) (e : Event) → happened e r ≡ alarm_changed k change r

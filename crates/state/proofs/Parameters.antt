@@ -8,16 +8,13 @@ use native.Mathlib.Nat.{eq-or-lt_of_le, not-suc-le-zero, le_of_suc-le-suc}
 use native.Mathlib.Omega.{arith}
 use native.Mathlib.Numerals.{add-one}
 use lib.Dec.{eqb, ltb}
-use lib.ListN.{length, get_or, length-append, get_or-append, get_or-eq_default, get_or-map}
+use lib.ListN.{length, get_or, length-append, get_or-append, get_or-eq_default}
 use lib.Seq.{get_or-append-add}
 use borrow.Author.Tests.{eq-eqb, ne_eqb, eqb-true, ltb-true, not-true, not-false}
 use Rattle.state.specs.declared.ParameterKind.{ParameterKind}
 use Rattle.state.specs.declared.ParameterKind.TheVariants.{Share, Factor, LowFlow}
-use Rattle.state.specs.declared.RecipeParameter.{RecipeParameter}
-use Rattle.state.specs.declared.RecipeParameter.TheVariants as digits
-use Rattle.state.specs.declared.Range.{Range}
-use Rattle.state.specs.declared.Place.{Place}
-use Rattle.state.specs.declared.Place.TheVariants.{At, Nothing}
+use Rattle.std.specs.Prelude.{Option, Some, None}
+use Rattle.std.proofs.lemmas.Option.{some_pair_parts}
 use Rattle.base.specs.Test.{pick, between}
 use Rattle.state.specs.Parameter.{Parameter, of_recipe, copies, recipes, code_of, kind_range, range_of, range, kinds, recipe_parameters, system_parameters, parameters_for, parameter_count, code_at, range_in, range_at, later, place_in, place_of, by_units, by_digits, kind_place, recipe_place, digits_place, Ruled}
 use Rattle.base.proofs.Tests.{by_test, below_or_not, holds_below, between_yes, between_no, between_low, between_high}
@@ -122,15 +119,15 @@ module _ (n : ℕ) where
 
 -- the first parameter that has the code gives the place
 pub place-first : (c : ℕ) (ps : List Parameter) (i : ℕ) → i < length ps → code_of (get_or ps i copies) ≡ c
-    → ((j : ℕ) → j < i → code_of (get_or ps j copies) ≡ c → ⊥) → place_in c ps ≡ At i
+    → ((j : ℕ) → j < i → code_of (get_or ps j copies) ≡ c → ⊥) → place_in c ps ≡ Some i
 unfolding place_in
 place-first c [] i h e none = absurd (not-suc-le-zero h)
 place-first c (p ∷ ps) zero h e none = simp (eq-eqb (code_of p) c e)
 place-first c (p ∷ ps) (suc i) h e none =
-    simp (ne_eqb (code_of p) c (none zero (omega arith)), place-first c ps i (le_of_suc-le-suc h) e (λ j l. none (suc j) (omega arith))) (ap At (add-one i))
+    simp (ne_eqb (code_of p) c (none zero (omega arith)), place-first c ps i (le_of_suc-le-suc h) e (λ j l. none (suc j) (omega arith))) (ap Some (add-one i))
 
 -- a code that no parameter has gives none
-pub place_none : (c : ℕ) (ps : List Parameter) → ((j : ℕ) → j < length ps → code_of (get_or ps j copies) ≡ c → ⊥) → place_in c ps ≡ Nothing
+pub place_none : (c : ℕ) (ps : List Parameter) → ((j : ℕ) → j < length ps → code_of (get_or ps j copies) ≡ c → ⊥) → place_in c ps ≡ None
 unfolding place_in
 place_none c [] none = refl
 place_none c (p ∷ ps) none = simp (ne_eqb (code_of p) c (none zero (omega arith)), place_none c ps (λ j l. none (suc j) (omega arith)))
@@ -138,7 +135,7 @@ place_none c (p ∷ ps) none = simp (ne_eqb (code_of p) c (none zero (omega arit
 -- with n recipes: a code that is not listed has no place, and place and code are inverse
 module _ (n : ℕ) where
   place_unlisted : (c : ℕ) → ((r : ℕ) (k : ParameterKind) → 1 ≤ r → r ≤ n → code_of (of_recipe r k) ≡ c → ⊥) → (801 ≤ c → c ≤ 808 → ⊥)
-      → place_in c (parameters_for n) ≡ Nothing
+      → place_in c (parameters_for n) ≡ None
   place_unlisted c no_recipe no_system =
       let l = list_length n in
       place_none c (parameters_for n)
@@ -148,19 +145,19 @@ module _ (n : ℕ) where
       (below_or_not j (3 * n)))
 
 module _ (n : ℕ) (few : n ≤ 79) where
-  pub place_of_code : (i : ℕ) → i < 3 * n + 8 → place_in (code_for n i) (parameters_for n) ≡ At i
+  pub place_of_code : (i : ℕ) → i < 3 * n + 8 → place_in (code_for n i) (parameters_for n) ≡ Some i
   place_of_code i h =
       let l = list_length n in
       place-first (code_for n i) (parameters_for n) i (omega arith) refl (λ j q e. let r = codes_rise n few j i q h in omega arith)
 
   -- "for recipe r: 10r+1 .., 10r+2 .., 10r+3"
-  place-recipe : (r : ℕ) (k : ParameterKind) → 1 ≤ r → r ≤ n → place_in (code_of (of_recipe r k)) (parameters_for n) ≡ At (recipe_place r k)
+  place-recipe : (r : ℕ) (k : ParameterKind) → 1 ≤ r → r ≤ n → place_in (code_of (of_recipe r k)) (parameters_for n) ≡ Some (recipe_place r k)
   place-recipe r k l h =
       let b = kind_low k in
       ap (λ (p : Parameter). place_in (code_of p) (parameters_for n)) (sym (at_recipe n r k l h)) ∙ place_of_code (recipe_place r k) (omega arith)
 
   -- "System: 801 .. 808"
-  place_system : (c : ℕ) → 801 ≤ c → c ≤ 808 → place_in c (parameters_for n) ≡ At (3 * n + (c - 801))
+  place_system : (c : ℕ) → 801 ≤ c → c ≤ 808 → place_in c (parameters_for n) ≡ Some (3 * n + (c - 801))
   place_system c l h =
       let i : ℕ = 3 * n + (c - 801) in
       let e : code_for n i ≡ c = let q = code_system n i (omega arith) (omega arith) in omega arith in
@@ -174,30 +171,30 @@ unfolding by_digits
 digits_of n r u l h b =
     let t : (10 * r + u) / 10 ≡ r = omega arith in
     let v : (10 * r + u) % 10 ≡ u = omega arith in
-    ap (λ (q : ℕ). pick (between 1 n q) (by_units q ((10 * r + u) % 10)) digits.Nothing) t
-    ∙ (ap (λ (q : ℕ). pick (between 1 n r) (by_units r q) digits.Nothing) v ∙ simp (between_yes 1 n r l h))
+    ap (λ (q : ℕ). pick (between 1 n q) (by_units q ((10 * r + u) % 10)) None) t
+    ∙ (ap (λ (q : ℕ). pick (between 1 n r) (by_units r q) None) v ∙ simp (between_yes 1 n r l h))
 
-digits-given : (n r : ℕ) (k : ParameterKind) → 1 ≤ r → r ≤ n → by_digits n (code_of (of_recipe r k)) ≡ digits.Of r k
+digits-given : (n r : ℕ) (k : ParameterKind) → 1 ≤ r → r ≤ n → by_digits n (code_of (of_recipe r k)) ≡ Some (r, k)
 digits-given n r Share l h = digits_of n r 1 l h (omega arith)
 digits-given n r Factor l h = digits_of n r 2 l h (omega arith)
 digits-given n r LowFlow l h = digits_of n r 3 l h (omega arith)
 
 -- what the units name has them in its code
-units-listed : (q u r : ℕ) (k : ParameterKind) → by_units q u ≡ digits.Of r k → (q ≡ r) × (u ≡ kind_place k + 1)
+units-listed : (q u r : ℕ) (k : ParameterKind) → by_units q u ≡ Some (r, k) → (q ≡ r) × (u ≡ kind_place k + 1)
 units-listed q u r k e = go (eqb u 1) (eqb u 2) (eqb u 3) refl refl refl e
   where
     go : (a b c : Bool) → eqb u 1 ≡ a → eqb u 2 ≡ b → eqb u 3 ≡ c
-        → pick a (digits.Of q Share) (pick b (digits.Of q Factor) (pick c (digits.Of q LowFlow) digits.Nothing)) ≡ digits.Of r k → (q ≡ r) × (u ≡ kind_place k + 1)
-    go true b c t f g e = (cc, let z : kind_place Share ≡ kind_place k = cc in let w = eqb-true u 1 t in omega arith)
-    go false true c t f g e = (cc, let z : kind_place Factor ≡ kind_place k = cc in let w = eqb-true u 2 f in omega arith)
-    go false false true t f g e = (cc, let z : kind_place LowFlow ≡ kind_place k = cc in let w = eqb-true u 3 g in omega arith)
+        → pick {A = Option (ℕ × ParameterKind)} a (Some (q, Share)) (pick b (Some (q, Factor)) (pick c (Some (q, LowFlow)) None)) ≡ Some (r, k) → (q ≡ r) × (u ≡ kind_place k + 1)
+    go true b c t f g e = let p = some_pair_parts q r Share k e in (p.0, let z : kind_place Share ≡ kind_place k = ap kind_place p.1 in let w = eqb-true u 1 t in omega arith)
+    go false true c t f g e = let p = some_pair_parts q r Factor k e in (p.0, let z : kind_place Factor ≡ kind_place k = ap kind_place p.1 in let w = eqb-true u 2 f in omega arith)
+    go false false true t f g e = let p = some_pair_parts q r LowFlow k e in (p.0, let z : kind_place LowFlow ≡ kind_place k = ap kind_place p.1 in let w = eqb-true u 3 g in omega arith)
     go false false false t f g e = let z : ◌≡◌ {A = ℕ} 0 1 = cc in absurd (omega arith)
 
-digits-listed : (n c r : ℕ) (k : ParameterKind) → by_digits n c ≡ digits.Of r k → (1 ≤ r) × (r ≤ n) × (code_of (of_recipe r k) ≡ c)
+digits-listed : (n c r : ℕ) (k : ParameterKind) → by_digits n c ≡ Some (r, k) → (1 ≤ r) × (r ≤ n) × (code_of (of_recipe r k) ≡ c)
 unfolding by_digits
 digits-listed n c r k e = go (between 1 n (c / 10)) refl e
   where
-    go : (b : Bool) → between 1 n (c / 10) ≡ b → pick b (by_units (c / 10) (c % 10)) digits.Nothing ≡ digits.Of r k
+    go : (b : Bool) → between 1 n (c / 10) ≡ b → pick b (by_units (c / 10) (c % 10)) None ≡ Some (r, k)
         → (1 ≤ r) × (r ≤ n) × (code_of (of_recipe r k) ≡ c)
     go true t e =
         let l = between_low 1 n (c / 10) t in
@@ -217,14 +214,14 @@ module _ (n : ℕ) where
       get_d_map_below range_of (parameters_for n) (recipe_place r k) copies (range 0 0) (omega arith) ∙ ap range_of (at_recipe n r k l h)
 
   module _ (few : n ≤ 79) (c : ℕ) where
-    place-digits : (p : RecipeParameter) → by_digits n c ≡ p → (801 ≤ c → c ≤ 808 → ⊥) → place_in c (parameters_for n) ≡ digits_place p
-    place-digits (digits.Of r k) e other =
+    place-digits : (p : Option (ℕ × ParameterKind)) → by_digits n c ≡ p → (801 ≤ c → c ≤ 808 → ⊥) → place_in c (parameters_for n) ≡ digits_place p
+    place-digits (Some (r, k)) e other =
         let h = digits-listed n c r k e in
         ap (λ (x : ℕ). place_in x (parameters_for n)) (sym h.2) ∙ place-recipe n few r k h.0 h.1
-    place-digits digits.Nothing e other =
+    place-digits None e other =
         place_unlisted n c
         (λ r k l h q.
-        let g : digits.Nothing ≡ digits.Of r k = sym e ∙ (ap (by_digits n) (sym q) ∙ digits-given n r k l h) in
+        let g : None ≡ Some (r, k) = sym e ∙ (ap (by_digits n) (sym q) ∙ digits-given n r k l h) in
         let z : ◌≡◌ {A = ℕ} 0 1 = cc in absurd (omega arith)) other
 
     -- "Show for every code": with up to 79 recipes the arithmetic of the code gives what 01 lists
@@ -242,7 +239,7 @@ module _ (n : ℕ) where
 -- 79 is the most: with one more, 801 would be listed twice
 pub no_more : Ruled 80 801 → ⊥
 unfolding place_in
-no_more h = let e : ◌≡◌ {A = ℕ} 237 240 = let p : At 237 ≡ At 240 = h.same_place in cc in absurd (omega arith)
+no_more h = let e : ◌≡◌ {A = ℕ} 237 240 = let p : ◌≡◌ {A = Option ℕ} (Some 237) (Some 240) = h.same_place in cc in absurd (omega arith)
 
 -- ---- the definitions that the contracts cite
 pub ruled : (c : ℕ) → Ruled recipes c
@@ -257,51 +254,51 @@ unfolding range_at
 range_in_list i h = get_d_map_below range_of (parameters_for recipes) i copies (range 0 0) h
 
 -- a code has the place i exactly if the parameter there has the code
-pub place_has_code : (i : ℕ) → i < parameter_count → place_of (code_at i) ≡ At i
+pub place_has_code : (i : ℕ) → i < parameter_count → place_of (code_at i) ≡ Some i
 unfolding place_of
 place_has_code i h = ap (λ (c : ℕ). place_in c (parameters_for recipes)) (code_in_list i h) ∙ place_of_code recipes (omega arith) i h
 
-found_step : (c : ℕ) (p : Parameter) (ps : List Parameter) (i : ℕ) (b : Bool) (q : Place) → eqb (code_of p) c ≡ b
-    → ((j : ℕ) → q ≡ At j → (j < length ps) × (code_of (get_or ps j copies) ≡ c))
-    → pick b (At 0) (later q) ≡ At i → (i < length (p ∷ ps)) × (code_of (get_or (p ∷ ps) i copies) ≡ c)
+found_step : (c : ℕ) (p : Parameter) (ps : List Parameter) (i : ℕ) (b : Bool) (q : Option ℕ) → eqb (code_of p) c ≡ b
+    → ((j : ℕ) → q ≡ Some j → (j < length ps) × (code_of (get_or ps j copies) ≡ c))
+    → pick b (Some 0) (later q) ≡ Some i → (i < length (p ∷ ps)) × (code_of (get_or (p ∷ ps) i copies) ≡ c)
 found_step c p ps i true q t rest e =
     let z : 0 ≡ i = cc in (omega arith, ap (λ (j : ℕ). code_of (get_or (p ∷ ps) j copies)) (sym z) ∙ eqb-true (code_of p) c t)
-found_step c p ps i false (At j) t rest e =
+found_step c p ps i false (Some j) t rest e =
     let z : j + 1 ≡ i = cc in
     let h = rest j refl in
     (let l = h.0 in omega arith, ap (λ (k : ℕ). code_of (get_or (p ∷ ps) k copies)) (sym z ∙ add-one j) ∙ h.1)
-found_step c p ps i false Nothing t rest e = let z : ◌≡◌ {A = ℕ} 0 1 = cc in absurd (omega arith)
+found_step c p ps i false None t rest e = let z : ◌≡◌ {A = ℕ} 0 1 = cc in absurd (omega arith)
 
-found_in : (c : ℕ) (ps : List Parameter) (i : ℕ) → place_in c ps ≡ At i → (i < length ps) × (code_of (get_or ps i copies) ≡ c)
+found_in : (c : ℕ) (ps : List Parameter) (i : ℕ) → place_in c ps ≡ Some i → (i < length ps) × (code_of (get_or ps i copies) ≡ c)
 unfolding place_in
 found_in c [] i e = let z : ◌≡◌ {A = ℕ} 0 1 = cc in absurd (omega arith)
 found_in c (p ∷ ps) i e = found_step c p ps i (eqb (code_of p) c) (place_in c ps) refl (λ j q. found_in c ps j q) e
 
-pub code_has_place : (c i : ℕ) → place_of c ≡ At i → (i < parameter_count) × (code_at i ≡ c)
+pub code_has_place : (c i : ℕ) → place_of c ≡ Some i → (i < parameter_count) × (code_at i ≡ c)
 unfolding place_of
 code_has_place c i e = let h = found_in c (parameters_for recipes) i e in (h.0, code_in_list i h.0 ∙ h.1)
 
 -- the code's returns
 module _ (c : ℕ) where
-  pub digits_outside : not (between 1 recipes (c / 10)) ≡ true → digits.Nothing ≡ by_digits recipes c
+  pub digits_outside : not (between 1 recipes (c / 10)) ≡ true → None ≡ by_digits recipes c
   unfolding by_digits
   digits_outside t = simp (not-true (between 1 recipes (c / 10)) t)
 
   module _ (t : not (between 1 recipes (c / 10)) ≡ false) where
-    pub digits_inside : (p : RecipeParameter) → p ≡ by_units (c / 10) (c % 10) → p ≡ by_digits recipes c
+    pub digits_inside : (p : Option (ℕ × ParameterKind)) → p ≡ by_units (c / 10) (c % 10) → p ≡ by_digits recipes c
     unfolding by_digits
     digits_inside p e = e ∙ simp (not-false (between 1 recipes (c / 10)) t)
 
-    pub digits-none : (c % 10 ≡ 1 → ⊥) → (c % 10 ≡ 2 → ⊥) → (c % 10 ≡ 3 → ⊥) → digits.Nothing ≡ by_digits recipes c
-    digits-none x y z = digits_inside digits.Nothing (simp (ne_eqb (c % 10) 1 x, ne_eqb (c % 10) 2 y, ne_eqb (c % 10) 3 z))
+    pub digits-none : (c % 10 ≡ 1 → ⊥) → (c % 10 ≡ 2 → ⊥) → (c % 10 ≡ 3 → ⊥) → None ≡ by_digits recipes c
+    digits-none x y z = digits_inside None (simp (ne_eqb (c % 10) 1 x, ne_eqb (c % 10) 2 y, ne_eqb (c % 10) 3 z))
 
-pub place-given-digits : (c : ℕ) (p : RecipeParameter) → p ≡ by_digits recipes c → (801 ≤ c → c ≤ 808 → ⊥) → digits_place p ≡ place_of c
+pub place-given-digits : (c : ℕ) (p : Option (ℕ × ParameterKind)) → p ≡ by_digits recipes c → (801 ≤ c → c ≤ 808 → ⊥) → digits_place p ≡ place_of c
 unfolding place_of
 place-given-digits c p e other = ap digits_place e ∙ sym ((ruled c).same_place ∙ simp (between_no 801 808 c other))
 
-pub place-given_system : (c n : ℕ) → 801 ≤ c → c ≤ 808 → n ≡ 3 * recipes + (c - 801) → At n ≡ place_of c
+pub place-given_system : (c n : ℕ) → 801 ≤ c → c ≤ 808 → n ≡ 3 * recipes + (c - 801) → Some n ≡ place_of c
 unfolding place_of
-place-given_system c n l h e = ap At e ∙ sym ((ruled c).same_place ∙ simp (between_yes 801 808 c l h))
+place-given_system c n l h e = ap Some e ∙ sym ((ruled c).same_place ∙ simp (between_yes 801 808 c l h))
 
 pub code_given-recipe : (i : ℕ) → i < 3 * recipes → 10 * (i / 3 + 1) + (i % 3 + 1) ≡ code_at i
 code_given-recipe i h = sym (code_in_list i (omega arith) ∙ code_recipe recipes i h)
@@ -330,18 +327,12 @@ pub range_repeats : (i u : ℕ) → i < recipes → u < 3 → range_at (3 * i + 
 range_repeats i u h l =
     sym (range-given-recipe (3 * i + u) (omega arith) u (omega arith)) ∙ range-given-recipe u (omega arith) u (omega arith)
 
--- the tables of the system's ranges are those of its parameters
-pub range-given_system : (i : ℕ) → 3 * recipes ≤ i → i < parameter_count
-    → range (get_or (0 ∷ 0 ∷ 0 ∷ 1 ∷ 0 ∷ 0 ∷ 1 ∷ 0 ∷ []) (i - 3 * recipes) 0) (get_or (99 ∷ 999 ∷ 9999 ∷ 9999 ∷ 3 ∷ 1 ∷ 99999 ∷ 9 ∷ []) (i - 3 * recipes) 0) ≡ range_at i
+-- the table of the system's ranges is those of its parameters
+pub range-given_system : (i : ℕ) → 3 * recipes ≤ i → i < parameter_count → get_or (map range_of system_parameters) (i - 3 * recipes) (range 0 0) ≡ range_at i
 range-given_system i l h =
-    let j : ℕ = i - 3 * recipes in
-    let ranges : List Range = map range_of system_parameters in
     sym
-    (range_in_list i h ∙ (ap range_of (at_system recipes i l) ∙ (sym (get_d_map_below range_of system_parameters j copies (range 0 0) (omega arith)) ∙
-    sym (cong_range (get_or-map (λ (r : Range). r.low) ranges j (range 0 0)) (get_or-map (λ (r : Range). r.high) ranges j (range 0 0))))))
-  where
-    cong_range : {a b c d : ℕ} → a ≡ b → c ≡ d → range a c ≡ range b d
-    cong_range p q = cc
+    (range_in_list i h
+    ∙ (ap range_of (at_system recipes i l) ∙ sym (get_d_map_below range_of system_parameters (i - 3 * recipes) copies (range 0 0) (omega arith))))
 
 pub range_beyond : (i : ℕ) → parameter_count ≤ i → range 0 0 ≡ range_at i
 unfolding range_at

@@ -58,31 +58,17 @@ all_from r (f ∷ fs) h = and_yes (within (field_range f) (get f r)) (all_in r f
 
 -- ---- the fields but the parameters'
 
--- the ends beyond which their types go
-abbrev ends : Record → List Bool
-ends r =
-    leb r.address (field_range address).high
-    ∷ leb r.access (field_range access).high
-    ∷ leb (field_range recipe).low r.recipe
-    ∷ leb r.recipe (field_range recipe).high
-    ∷ leb r.preset (field_range preset).high
-    ∷ leb r.raw (field_range raw).high
-    ∷ leb (field_range number).low r.number
-    ∷ leb r.number (field_range number).high
-    ∷ leb r.alarms (field_range alarms).high
-    ∷ []
-
--- one test after the other, as the code has them
-abbrev tests : Bool → List Bool → Bool
-tests b [] = b
-tests b (t ∷ ts) = tests (b && t) ts
-
 low_zero : (n : ℕ) → leb 0 n ≡ true
 low_zero n = le-leb 0 n (omega arith)
 
-pub scalars_tested : (r : Record) → tests (leb (field_range address).low r.address) (ends r) ≡ all_in r scalar_fields
+-- a phase and a flag are in theirs, and the code tests the others
+pub scalars_tested : (r : Record) (a b c d e f g : Bool) (k l m n : ℕ) → k ≡ r.address → a ≡ within (field_range address) k → l ≡ r.access → b ≡ within (field_range access) l
+    → m ≡ r.recipe → c ≡ within (field_range recipe) m → d ≡ within (field_range preset) r.preset → e ≡ within (field_range raw) r.raw
+    → n ≡ r.number → f ≡ within (field_range number) n → g ≡ within (field_range alarms) r.alarms
+    → (a && b && c && d && e && f && g) ≡ all_in r scalar_fields
 unfolding all_in
-scalars_tested r = simp (phase_high, flag_high, low_zero, and_assoc, and-true)
+scalars_tested r a b c d e f g k l m n p q s t u v w x y z h =
+    simp (q, t, v, w, x, z, h, p, s, u, y, phase_high, flag_high, low_zero, and_assoc, and-true)
 
 -- the ends that laws ask for
 pub record Scalars (r : Record) : Type 0 where
@@ -199,33 +185,12 @@ module _ (r : Record) (p : ℕ) (g : Range) (b : Bool) (q : g ≡ range_at p) (e
   by_place : b ≡ value_in r p
   by_place = e ∙ ap (λ (w : Range). within w (get_or r.values p 0)) q
 
-  pub values_more : ValuesIn r p → not b ≡ false → ValuesIn r (p + 1)
-  values_more v n = value_more r p v (sym by_place ∙ not-false b n)
-
   pub not-valid-value : not b ≡ true → p < parameter_count → false ≡ valid r
   not-valid-value n l = decided (valid r) (λ h. false≢true (sym (not-true b n) ∙ (by_place ∙ value-valid r h p l)))
 
 -- those of the recipes before n
 pub record RecipesIn (r : Record) (n : ℕ) : Type 0 where
   pub places : ValuesIn r (3 * (n - 1))
-
-pub recipes-none : (r : Record) → RecipesIn r 1
-recipes-none r = record { places = record { each = λ i h. absurd (omega arith) } }
-
-pub recipes_all : (r : Record) (n : ℕ) → recipes < n → RecipesIn r n → ValuesIn r (3 * recipes)
-recipes_all r n h v = record { each = λ j l. v.places.each j (omega arith) }
-
--- three tests in turn
-module _ (a x : Bool) (e : a ≡ x) where
-  pub first_no : (y : Bool) → not a ≡ true → false ≡ (x && y)
-  first_no y n = simp (sym e ∙ not-true a n)
-
-  module _ (n : not a ≡ false) (b y : Bool) (f : b ≡ y) where
-    pub second_no : (z : Bool) → not b ≡ true → false ≡ (x && (y && z))
-    second_no z m = simp (sym e ∙ not-false a n, sym f ∙ not-true b m)
-
-    pub third-tells : (c z : Bool) → not b ≡ false → c ≡ z → c ≡ (x && (y && z))
-    third-tells c z m g = g ∙ simp (sym e ∙ not-false a n, sym f ∙ not-false b m)
 
 -- the value at place i, for the kind k
 abbrev kind_in : Record → ℕ → ParameterKind → Bool

@@ -1,12 +1,8 @@
 -- Document 01, "The controller's record": the parameters, their codes and their ranges; and 02, L3: what a code's digits say.
-use Rattle.std.specs.Prelude.{ℕ, zero, suc, ◌+◌, ◌-◌, ◌*◌, ◌/◌, ◌%◌, ◌≤◌, ◌≡◌, List, [], ◌∷◌, ◌++◌, map, eqb, get_or}
+use Rattle.std.specs.Prelude.{ℕ, zero, suc, ◌+◌, ◌-◌, ◌*◌, ◌/◌, ◌%◌, ◌≤◌, ◌≡◌, Option, Some, None, List, [], ◌∷◌, ◌++◌, map, eqb, get_or}
 use Rattle.state.specs.declared.ParameterKind.{ParameterKind}
 use Rattle.state.specs.declared.ParameterKind.TheVariants.{Share, Factor, LowFlow}
-use Rattle.state.specs.declared.RecipeParameter.{RecipeParameter}
-use Rattle.state.specs.declared.RecipeParameter.TheVariants as digits
 use Rattle.state.specs.declared.Range.{Range}
-use Rattle.state.specs.declared.Place.{Place}
-use Rattle.state.specs.declared.Place.TheVariants.{At, Nothing}
 use Rattle.base.specs.Test.{pick, between}
 
 -- the number of recipes
@@ -84,26 +80,26 @@ unfoldable pub range_at : ℕ → Range
 range_at i = range_in (parameters_for recipes) i
 
 -- the place of the parameter with code c
-abbrev pub later : Place → Place
-later (At i) = At (i + 1)
-later Nothing = Nothing
+abbrev pub later : Option ℕ → Option ℕ
+later (Some i) = Some (i + 1)
+later None = None
 
-unfoldable pub place_in : ℕ → List Parameter → Place
-place_in c [] = Nothing
-place_in c (p ∷ ps) = pick (eqb (code_of p) c) (At 0) (later (place_in c ps))
+unfoldable pub place_in : ℕ → List Parameter → Option ℕ
+place_in c [] = None
+place_in c (p ∷ ps) = pick (eqb (code_of p) c) (Some 0) (later (place_in c ps))
 
-unfoldable pub place_of : ℕ → Place
+unfoldable pub place_of : ℕ → Option ℕ
 place_of c = place_in c (parameters_for recipes)
 
 -- ---- 02, L3: "For the recipe codes let the arithmetic of the code decide ..: tens for the recipe and units for the kind"
 
 -- what the units u name of recipe r
-abbrev pub by_units : ℕ → ℕ → RecipeParameter
-by_units r u = pick (eqb u 1) (digits.Of r Share) (pick (eqb u 2) (digits.Of r Factor) (pick (eqb u 3) (digits.Of r LowFlow) digits.Nothing))
+abbrev pub by_units : ℕ → ℕ → Option (ℕ × ParameterKind)
+by_units r u = pick (eqb u 1) (Some (r, Share)) (pick (eqb u 2) (Some (r, Factor)) (pick (eqb u 3) (Some (r, LowFlow)) None))
 
 -- what code c names with n recipes
-unfoldable pub by_digits : ℕ → ℕ → RecipeParameter
-by_digits n c = pick (between 1 n (c / 10)) (by_units (c / 10) (c % 10)) digits.Nothing
+unfoldable pub by_digits : ℕ → ℕ → Option (ℕ × ParameterKind)
+by_digits n c = pick (between 1 n (c / 10)) (by_units (c / 10) (c % 10)) None
 
 -- a recipe has three places, in the order of the kinds
 abbrev pub kind_place : ParameterKind → ℕ
@@ -114,17 +110,17 @@ kind_place LowFlow = 2
 abbrev pub recipe_place : ℕ → ParameterKind → ℕ
 recipe_place r k = 3 * (r - 1) + kind_place k
 
-abbrev pub digits_place : RecipeParameter → Place
-digits_place (digits.Of r k) = At (recipe_place r k)
-digits_place digits.Nothing = Nothing
+abbrev pub digits_place : Option (ℕ × ParameterKind) → Option ℕ
+digits_place (Some (r, k)) = Some (recipe_place r k)
+digits_place None = None
 
 -- the place of code c with n recipes, without the list: 801 to 808 are matched
-abbrev pub place_by : ℕ → ℕ → Place
-place_by n c = pick (between 801 808 c) (At (3 * n + (c - 801))) (digits_place (by_digits n c))
+abbrev pub place_by : ℕ → ℕ → Option ℕ
+place_by n c = pick (between 801 808 c) (Some (3 * n + (c - 801))) (digits_place (by_digits n c))
 
 -- "that it gives a recipe's parameter exactly where document 01 lists one, with the same place and range": code c with n recipes
 pub record Ruled (n c : ℕ) : Type 0 where
-  pub given : (r : ℕ) (k : ParameterKind) → 1 ≤ r → r ≤ n → code_of (of_recipe r k) ≡ c → by_digits n c ≡ digits.Of r k
-  pub listed : (r : ℕ) (k : ParameterKind) → by_digits n c ≡ digits.Of r k → (1 ≤ r) × (r ≤ n) × (code_of (of_recipe r k) ≡ c)
+  pub given : (r : ℕ) (k : ParameterKind) → 1 ≤ r → r ≤ n → code_of (of_recipe r k) ≡ c → by_digits n c ≡ Some (r, k)
+  pub listed : (r : ℕ) (k : ParameterKind) → by_digits n c ≡ Some (r, k) → (1 ≤ r) × (r ≤ n) × (code_of (of_recipe r k) ≡ c)
   pub same_place : place_in c (parameters_for n) ≡ place_by n c
-  pub same-range : (r : ℕ) (k : ParameterKind) → by_digits n c ≡ digits.Of r k → range_in (parameters_for n) (recipe_place r k) ≡ kind_range k
+  pub same-range : (r : ℕ) (k : ParameterKind) → by_digits n c ≡ Some (r, k) → range_in (parameters_for n) (recipe_place r k) ≡ kind_range k

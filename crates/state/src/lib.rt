@@ -3,7 +3,7 @@
 
 ghost use Rattle.std.specs.Prelude.{◌≡◌, ◌&&◌, ◌%◌, ◌≤◌};
 ghost use Rattle.base.specs.Test.{pick};
-ghost use Rattle.state.specs.Parameter.{recipes, code_at, kind_range, range_at, kind_place, recipe_place, by_digits, place_of};
+ghost use Rattle.state.specs.Parameter.{recipes, code_at, kind_range, range_at, recipe_place, by_digits, place_of};
 ghost use Rattle.state.specs.Alarm.{all_alarms, is_alarm, weight_of, lasting};
 ghost use Rattle.state.specs.Field.{Field, get, put, phase_number, scalar_fields};
 ghost use Rattle.state.specs.Valid.{within, all_in, valid};
@@ -23,14 +23,7 @@ pub enum ParameterKind {
     LowFlow,
 }
 
-// A recipe's parameter, by the recipe's number and its kind.
-#[derive(Clone, Copy)]
-enum RecipeParameter {
-    Of(u16, ParameterKind),
-    Nothing,
-}
-
-#[derive(Clone, Copy)]
+#[derive(Clone, Copy, PartialEq, Eq)]
 pub enum Phase {
     Idle,
     Set,
@@ -39,14 +32,7 @@ pub enum Phase {
     Done,
 }
 
-// Where a parameter stands in the list by rising code.
-#[derive(Clone, Copy)]
-pub enum Place {
-    At(usize),
-    Nothing,
-}
-
-// The low end and the high end of what a field may hold.
+// The low end and the high end of what a field may hold. No range of the library, since the definitions go by this one (`field_range`).
 #[derive(Clone, Copy)]
 pub struct Range {
     pub low: u32,
@@ -78,6 +64,9 @@ pub const RAW_RANGE: Range = Range {
     low: 0,
     high: 99999999,
 };
+
+// Where the raw total wraps.
+const RAW_MODULUS: u32 = RAW_RANGE.high + 1;
 
 pub const NUMBER_RANGE: Range = Range { low: 1, high: 9999 };
 
@@ -131,7 +120,7 @@ pub struct Record {
     pub number: u16,
     // The alarms that are on, a bit each, the first in the highest.
     pub alarms: u32,
-    // By place.
+    // By place. Two lists, as the definitions over any field (`Field.value`, `Field.level`) and their theorems have them.
     pub values: [u32; PARAMETERS],
     pub levels: [u8; PARAMETERS],
 }
@@ -149,55 +138,30 @@ pub enum Event {
     AlarmOff(u16),
 }
 
-// ---- phases by number, in the order above
-pub const IDLE: u8 = 0;
+// Phases by number, in the order above.
+impl From<Phase> for u8 {
+    ghost from_gives = { λ p n. n ≡ phase_number p };
 
-pub const SET: u8 = 1;
-
-pub const RUNNING: u8 = 2;
-
-pub const STOPPED: u8 = 3;
-
-pub const DONE: u8 = 4;
-
-pub fn phase_number(p: Phase) -> u8
-    ensures { result ≡ phase_number p }
-{
-    match p {
-        Phase::Idle => IDLE,
-        Phase::Set => SET,
-        Phase::Running => RUNNING,
-        Phase::Stopped => STOPPED,
-        Phase::Done => DONE,
+    fn from(p: Phase) -> u8 {
+        p as u8
     }
 }
 
 // ---- parameters
 
-// What a recipe's code names, tens for the recipe and units for the kind: 10r+1 share, 10r+2 factor, 10r+3 low flow.
-fn by_digits(code: u16) -> RecipeParameter
+// The recipe and the kind that a recipe's code names, tens for the recipe and units for the kind: 10r+1 share, 10r+2 factor, 10r+3 low flow.
+fn by_digits(code: u16) -> Option<(u16, ParameterKind)>
     ensures { result ≡ by_digits recipes code }
 {
     let recipe = code / 10;
-    if !((FIRST_RECIPE <= recipe) & (recipe <= LAST_RECIPE)) {
-        return RecipeParameter::Nothing;
+    if !(FIRST_RECIPE..=LAST_RECIPE).contains(&recipe) {
+        return None;
     }
     match code % 10 {
-        1 => RecipeParameter::Of(recipe, ParameterKind::Share),
-        2 => RecipeParameter::Of(recipe, ParameterKind::Factor),
-        3 => RecipeParameter::Of(recipe, ParameterKind::LowFlow),
-        _ => RecipeParameter::Nothing,
-    }
-}
-
-// The place of a kind among a recipe's three.
-fn kind_place(kind: ParameterKind) -> usize
-    ensures { result ≡ kind_place kind }
-{
-    match kind {
-        ParameterKind::Share => 0,
-        ParameterKind::Factor => 1,
-        ParameterKind::LowFlow => 2,
+        1 => Some((recipe, ParameterKind::Share)),
+        2 => Some((recipe, ParameterKind::Factor)),
+        3 => Some((recipe, ParameterKind::LowFlow)),
+        _ => None,
     }
 }
 
@@ -205,23 +169,18 @@ fn kind_place(kind: ParameterKind) -> usize
 pub fn recipe_place(recipe: u16, kind: ParameterKind) -> usize
     ensures { result ≡ recipe_place recipe kind }
 {
-    if recipe == 0 {
-        return kind_place(kind);
-    }
-    3 * (recipe as usize - 1) + kind_place(kind)
+    3 * usize::from(recipe).saturating_sub(1) + kind as usize
 }
 
-// The place of the parameter with a code.
-pub fn place_of(code: u16) -> Place
+// The place of the parameter with a code, in the list by rising code.
+pub fn place_of(code: u16) -> Option<usize>
     ensures { result ≡ place_of code }
 {
     match code {
-        801..=808 => Place::At(3 * RECIPES + (code - 801) as usize),
+        801..=808 => Some(3 * RECIPES + (code - 801) as usize),
         _ => {
-            let RecipeParameter::Of(recipe, kind) = by_digits(code) else {
-                return Place::Nothing;
-            };
-            Place::At(recipe_place(recipe, kind))
+            let (recipe, kind) = by_digits(code)?;
+            Some(recipe_place(recipe, kind))
         }
     }
 }
@@ -241,10 +200,20 @@ pub fn code_at(place: usize) -> u16
     0
 }
 
-// 801 to 808.
-const SYSTEM_LOWS: [u32; 8] = [0, 0, 0, 1, 0, 0, 1, 0];
-
-const SYSTEM_HIGHS: [u32; 8] = [99, 999, 9999, 9999, 3, 1, 99999, 9];
+// Those of 801 to 808.
+const SYSTEM_RANGES: [Range; 8] = [
+    Range { low: 0, high: 99 },
+    Range { low: 0, high: 999 },
+    Range { low: 0, high: 9999 },
+    Range { low: 1, high: 9999 },
+    Range { low: 0, high: 3 },
+    Range { low: 0, high: 1 },
+    Range {
+        low: 1,
+        high: 99999,
+    },
+    Range { low: 0, high: 9 },
+];
 
 // The range of the parameter at a place; 0 to 0 beyond the last.
 pub fn range_at(place: usize) -> Range
@@ -254,11 +223,7 @@ pub fn range_at(place: usize) -> Range
         return Range { low: 0, high: 0 };
     }
     if 3 * RECIPES <= place {
-        let row = place - 3 * RECIPES;
-        return Range {
-            low: SYSTEM_LOWS[row],
-            high: SYSTEM_HIGHS[row],
-        };
+        return SYSTEM_RANGES[place - 3 * RECIPES];
     }
     match place % 3 {
         0 => SHARE_RANGE,
@@ -271,20 +236,14 @@ pub fn range_at(place: usize) -> Range
 pub fn within(range: Range, n: u32) -> bool
     ensures { result ≡ within range n }
 {
-    base::is_between(range.low, range.high, n)
+    (range.low..=range.high).contains(&n)
 }
 
 // The values of a recipe are in the ranges of their kinds.
 fn recipe_valid(share: u32, factor: u32, flow: u32) -> bool
     ensures { result ≡ (within (kind_range ParameterKind.Share) share && (within (kind_range ParameterKind.Factor) factor && within (kind_range ParameterKind.LowFlow) flow)) }
 {
-    if !within(SHARE_RANGE, share) {
-        return false;
-    }
-    if !within(FACTOR_RANGE, factor) {
-        return false;
-    }
-    within(LOW_FLOW_RANGE, flow)
+    within(SHARE_RANGE, share) && within(FACTOR_RANGE, factor) && within(LOW_FLOW_RANGE, flow)
 }
 
 // The batch number after n.
@@ -317,7 +276,7 @@ pub fn lasting(alarms: u32) -> u32
 fn is_alarm(number: u16) -> bool
     ensures { result ≡ is_alarm number }
 {
-    (1 <= number) & (number <= ALARMS)
+    (1..=ALARMS).contains(&number)
 }
 
 // The bit of an alarm; 0 for a number that is no alarm's.
@@ -332,24 +291,17 @@ fn alarm_bit(number: u16) -> u32
 
 // ---- the record
 impl Record {
-    // The fields but the parameters' are in their ranges: the ends beyond which their types go.
+    // The fields but the parameters' are in their ranges; a phase and a flag always are. By `&`: with `&&` the proof has a case for each test.
     fn scalars_valid(self) -> bool
         ensures { result ≡ all_in self scalar_fields }
     {
-        let address = self.address as u32;
-        let access = self.access as u32;
-        let recipe = self.recipe as u32;
-        let number = self.number as u32;
-        (ADDRESS_RANGE.low <= address)
-            & (address <= ADDRESS_RANGE.high)
-            & (access <= ACCESS_RANGE.high)
-            & (RECIPE_RANGE.low <= recipe)
-            & (recipe <= RECIPE_RANGE.high)
-            & (self.preset <= PRESET_RANGE.high)
-            & (self.raw <= RAW_RANGE.high)
-            & (NUMBER_RANGE.low <= number)
-            & (number <= NUMBER_RANGE.high)
-            & (self.alarms <= ALARMS_RANGE.high)
+        within(ADDRESS_RANGE, u32::from(self.address))
+            & within(ACCESS_RANGE, u32::from(self.access))
+            & within(RECIPE_RANGE, u32::from(self.recipe))
+            & within(PRESET_RANGE, self.preset)
+            & within(RAW_RANGE, self.raw)
+            & within(NUMBER_RANGE, u32::from(self.number))
+            & within(ALARMS_RANGE, self.alarms)
     }
 
     // Each field lies in its own range.
@@ -359,12 +311,10 @@ impl Record {
         if !self.scalars_valid() {
             return false;
         }
-        let levels = self.levels;
-        if !base::all_between(LOW_LEVEL, HIGH_LEVEL, &levels) {
+        if !base::all_between(LOW_LEVEL, HIGH_LEVEL, &self.levels) {
             return false;
         }
-        let mut recipe = FIRST_RECIPE;
-        while recipe <= LAST_RECIPE {
+        for recipe in FIRST_RECIPE..=LAST_RECIPE {
             if !recipe_valid(
                 self.values[recipe_place(recipe, ParameterKind::Share)],
                 self.values[recipe_place(recipe, ParameterKind::Factor)],
@@ -372,14 +322,11 @@ impl Record {
             ) {
                 return false;
             }
-            recipe += 1;
         }
-        let mut place = 3 * RECIPES;
-        while place < PARAMETERS {
+        for place in 3 * RECIPES..PARAMETERS {
             if !within(range_at(place), self.values[place]) {
                 return false;
             }
-            place += 1;
         }
         true
     }
@@ -388,19 +335,13 @@ impl Record {
     pub fn value_at(self, place: usize) -> u32
         ensures { result ≡ get (Field.value place) self }
     {
-        if place < PARAMETERS {
-            return self.values[place];
-        }
-        0
+        self.values.get(place).copied().unwrap_or(0)
     }
 
     pub fn level_at(self, place: usize) -> u8
         ensures { result ≡ get (Field.level place) self }
     {
-        if place < PARAMETERS {
-            return self.levels[place];
-        }
-        0
+        self.levels.get(place).copied().unwrap_or(0)
     }
 
     fn in_phase(self, p: Phase) -> Record
@@ -415,35 +356,18 @@ impl Record {
     pub fn pulses(mut self, n: u16) -> Record
         ensures { result ≡ after (Event.Pulses n) self }
     {
-        if !self.valid() {
+        if !self.valid() || n == 0 {
             return self;
         }
-        if n == 0 {
-            return self;
-        }
-        let phase = self.phase;
-        let preset = self.preset;
-        let sum = self.raw + (n as u32);
+        let sum = self.raw + u32::from(n);
         self.flow = true;
-        match phase {
-            Phase::Idle => self,
-            Phase::Set => self.counted(sum),
-            Phase::Running => {
-                if preset <= sum {
-                    return self.counted(sum).in_phase(Phase::Done);
-                }
-                self.counted(sum)
-            }
-            Phase::Stopped => self.counted(sum),
-            Phase::Done => self.counted(sum),
+        if self.phase == Phase::Idle {
+            return self;
         }
-    }
-
-    // The raw total, which wraps.
-    fn counted(mut self, sum: u32) -> Record
-        ensures { result ≡ put Field.raw (sum % 100000000) self }
-    {
-        self.raw = sum % 100000000;
+        self.raw = sum % RAW_MODULUS;
+        if self.phase == Phase::Running && self.preset <= sum {
+            self.phase = Phase::Done;
+        }
         self
     }
 
@@ -465,20 +389,10 @@ impl Record {
         if !self.valid() {
             return self;
         }
-        let phase = self.phase;
-        match phase {
-            Phase::Idle => {
-                self.keypad = true;
-                self
-            }
-            Phase::Set => self,
-            Phase::Running => self,
-            Phase::Stopped => self,
-            Phase::Done => {
-                self.keypad = true;
-                self
-            }
+        if matches!(self.phase, Phase::Idle | Phase::Done) {
+            self.keypad = true;
         }
+        self
     }
 
     pub fn keypad_off(mut self) -> Record
@@ -498,16 +412,12 @@ impl Record {
         if !self.valid() {
             return self;
         }
-        let phase = self.phase;
         self.flow = false;
         self.powerfail = true;
-        match phase {
-            Phase::Idle => self,
-            Phase::Set => self,
-            Phase::Running => self.in_phase(Phase::Stopped),
-            Phase::Stopped => self,
-            Phase::Done => self,
+        if self.phase == Phase::Running {
+            self.phase = Phase::Stopped;
         }
+        self
     }
 
     // An alarm comes on; a number that is no alarm's changes nothing.

@@ -1,40 +1,27 @@
 -- The record of the low ends, as the code fills it. Assumes nothing.
-use Prim.Native.Nat.{ℕ, ◌+◌, ◌≤◌, ◌<◌}
-use mathlib.Core.Path.{◌≡◌, refl, sym, ap, ◌∙◌}
+use Prim.Native.Nat.{ℕ, ◌<◌}
+use mathlib.Core.Path.{◌≡◌, sym, ap, ◌∙◌}
 use mathlib.Core.List.{List}
 use native.Mathlib.Omega.{arith}
-use native.Mathlib.Numerals.{add-one}
-use lib.ListN.{length, set}
-use Rattle.base.specs.Lists.{over}
-use Rattle.state.specs.declared.Range.{Range}
+use lib.ListN.{length, get_or}
+use lib.Seq.{ext_get_or}
 use Rattle.state.specs.Parameter.{parameter_count, range_at}
-use Rattle.state.specs.Field.{listed, record_from}
+use Rattle.state.specs.Field.{Field, value, field_range, record_from}
 use Rattle.state.proofs.Fields.{with_lists}
-use Rattle.state.proofs.Whole.{listed-length}
+use Rattle.state.proofs.Whole.{listed-length, get_from, low_within}
 use Rattle.stored.specs.Form.{low_record}
-use Rattle.base.proofs.Lists.{over-put, over_all}
 
-abbrev pub lows : ℕ → List ℕ
-lows n = listed (λ (i : ℕ). (range_at i).low) n
+-- the values of the low record are the low ends
+low_at : (i : ℕ) → i < parameter_count → get_or low_record.values i 0 ≡ (range_at i).low
+unfolding low_record
+low_at i h = get_from (λ (f : Field). (field_range f).low) low_within (value i) (omega arith)
 
-pub low_none : (vs : List ℕ) → vs ≡ over (lows 0) vs
-unfolding over listed
-low_none vs = refl
-
-pub low_more : (vs ws : List ℕ) (i : ℕ) (g : Range) → length vs ≡ parameter_count → i < parameter_count → g ≡ range_at i → ws ≡ over (lows i) vs
-    → set ws i g.low ≡ over (lows (i + 1)) vs
-unfolding listed
-low_more vs ws i g l h e q =
-    ap (λ (x : List ℕ). set x i g.low) q ∙
-    (ap (λ (r : Range). set (over (lows i) vs) i r.low) e ∙
-    (over-put (lows i) vs i (range_at i).low (sym (listed-length (λ (j : ℕ). (range_at j).low) i)) (omega arith) ∙
-    ap (λ (k : ℕ). over (lows k) vs) (sym (add-one i))))
-
-pub low_is : (vs ws : List ℕ) (i : ℕ) → length vs ≡ parameter_count → i ≤ parameter_count → parameter_count ≤ i → ws ≡ over (lows i) vs
-    → with_lists ws low_record.levels low_record ≡ low_record
+low_length : length low_record.values ≡ parameter_count
 unfolding low_record record_from
-low_is vs ws i l h k q =
-    let e : i ≡ parameter_count = omega arith in
-    let n = listed-length (λ (j : ℕ). (range_at j).low) parameter_count in
-    let w : ws ≡ lows parameter_count = q ∙ (ap (λ (j : ℕ). over (lows j) vs) e ∙ over_all (lows parameter_count) vs (omega arith)) in
-    ap (λ (x : List ℕ). with_lists x low_record.levels low_record) w
+low_length = listed-length (λ (i : ℕ). (range_at i).low) parameter_count
+
+pub low_is : (vs : List ℕ) → length vs ≡ parameter_count → ((i : ℕ) → i < parameter_count → get_or vs i 0 ≡ (range_at i).low)
+    → with_lists vs low_record.levels low_record ≡ low_record
+low_is vs l h =
+    ap (λ (x : List ℕ). with_lists x low_record.levels low_record)
+    (ext_get_or 0 vs low_record.values (l ∙ sym low_length) (λ i q. h i (omega arith) ∙ sym (low_at i (omega arith))))

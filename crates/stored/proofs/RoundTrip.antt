@@ -54,7 +54,7 @@ numbers_unpacked at (x ∷ xs) bs =
 -- every number of an item has room in its bytes
 abbrev roomy : List Item → Bool
 roomy [] = true
-roomy (x ∷ xs) = ltb (item_slot 0 x).high (256 ^ item_width x) && roomy xs
+roomy (x ∷ xs) = ltb (item_slot 0 x).range.high (256 ^ item_width x) && roomy xs
 
 fitting_roomy : (xs : List Item) (ns : List ℕ) → length ns ≡ length xs → roomy xs ≡ true → all_fit xs ns ≡ true → Roomy (widths xs) ns
 unfolding all_fit
@@ -63,9 +63,9 @@ fitting_roomy [] (n ∷ ns) l f i = absurd (omega arith)
 fitting_roomy (x ∷ xs) [] l f i = absurd (omega arith)
 fitting_roomy (x ∷ xs) (n ∷ ns) l f i =
     let s : Slot = item_slot 0 x in
-    let high : n ≤ s.high = between_high s.low s.high n (fit_inside 0 x n (and_left (fits x n) (all_fit xs ns) i)) in
-    let room : s.high < 256 ^ item_width x = ltb-true _ _ (and_left (ltb s.high (256 ^ item_width x)) (roomy xs) f) in
-    (omega arith, fitting_roomy xs ns (omega arith) (and_right (ltb s.high (256 ^ item_width x)) (roomy xs) f) (and_right (fits x n) (all_fit xs ns) i))
+    let high : n ≤ s.range.high = between_high s.range.low s.range.high n (fit_inside 0 x n (and_left (fits x n) (all_fit xs ns) i)) in
+    let room : s.range.high < 256 ^ item_width x = ltb-true _ _ (and_left (ltb s.range.high (256 ^ item_width x)) (roomy xs) f) in
+    (omega arith, fitting_roomy xs ns (omega arith) (and_right (ltb s.range.high (256 ^ item_width x)) (roomy xs) f) (and_right (fits x n) (all_fit xs ns) i))
 
 numbers_back : (before : List ℕ) (xs : List Item) (ns : List ℕ) (at : ℕ) → length before ≡ at → length ns ≡ length xs → roomy xs ≡ true → all_fit xs ns ≡ true
     → numbers_in (slots_from at xs) (before ++ pack (widths xs) ns) ≡ ns

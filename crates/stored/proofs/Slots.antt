@@ -2,19 +2,21 @@
 -- Assumes nothing.
 use Prim.Native.Nat.{ℕ, zero, suc, ◌+◌, ◌*◌, ◌≤◌, ◌<◌}
 use mathlib.Core.Bool.{Bool, true, ◌&&◌}
-use mathlib.Core.Path.{◌≡◌, refl, sym, ap, ◌∙◌}
+use mathlib.Core.Path.{◌≡◌, refl, ap, ◌∙◌}
 use mathlib.Core.List.{List, [], ◌∷◌, ◌++◌}
 use native.Mathlib.Nat.{not-suc-le-zero, le_of_suc-le-suc}
 use native.Mathlib.Omega.{arith}
-use lib.Dec.{leb}
+use lib.Dec.{eqb, leb}
 use lib.ListN.{length, get_or}
-use borrow.Author.Tests.{leb-true}
-use Rattle.base.proofs.Tests.{and_left, and_right}
+use borrow.Author.Tests.{eqb-true, leb-true}
+use Rattle.base.proofs.Tests.{and_left, and_right, holds_below}
 use Rattle.state.specs.declared.Range.{Range}
 use Rattle.state.specs.Parameter.{range, range_at}
 use Rattle.state.specs.Field.{address, access, phase, recipe, preset, raw, number, value, level, field_range}
 use Rattle.stored.specs.declared.Slot.{Slot}
-use Rattle.stored.specs.Layout.{Item, alone, together, bit_mapped, scalar_items, parameter_items, current, scalars_of, header_width, item_width, total_width, parameters_at, item_slot, slot_of, slots_from, scalar_slots, no_slot}
+use Rattle.stored.specs.declared.ScalarField.{ScalarField}
+use Rattle.stored.specs.declared.ScalarField.TheVariants as scalar
+use Rattle.stored.specs.Layout.{Item, alone, together, bit_mapped, scalar_items, parameter_items, current, scalars_of, scalar_place, header_width, item_width, total_width, parameters_at, item_slot, slot_of, slots_from, scalar_slots, no_slot}
 use Rattle.stored.specs.Form.{stored_length}
 
 -- ---- any list of items
@@ -84,25 +86,31 @@ table_is : scalar_table ≡ scalar_slots current
 unfolding slots_from
 table_is = refl
 
-pub scalar_here : (j : ℕ) {k : ℕ} {s : Slot} → k ≡ j → s ≡ get_or scalar_table j no_slot → s ≡ get_or (scalar_slots current) k no_slot
-scalar_here j {k} {s} e q = q ∙ (ap (λ (l : List Slot). get_or l j no_slot) table_is ∙ ap (λ (i : ℕ). get_or (scalar_slots current) i no_slot) (sym e))
+pub scalar_here : (f : ScalarField) (s : Slot) → s ≡ get_or scalar_table (scalar_place f) no_slot → s ≡ get_or (scalar_slots current) (scalar_place f) no_slot
+scalar_here f s q = q ∙ ap (λ (l : List Slot). get_or l (scalar_place f) no_slot) table_is
 
--- the last arm has the last place
-abbrev pub Others : ℕ → Type 0
-Others k = (((((((Unit {0} × (k ≡ 0 → ⊥)) × (k ≡ 1 → ⊥)) × (k ≡ 2 → ⊥)) × (k ≡ 3 → ⊥)) × (k ≡ 4 → ⊥)) × (k ≡ 5 → ⊥)) × (k ≡ 6 → ⊥)) × (k ≡ 7 → ⊥)
+pub scalar_below : (f : ScalarField) → scalar_place f < length (scalars_of current)
+scalar_below scalar.Address = omega arith
+scalar_below scalar.Access = omega arith
+scalar_below scalar.Phase = omega arith
+scalar_below scalar.Flags = omega arith
+scalar_below scalar.Recipe = omega arith
+scalar_below scalar.Preset = omega arith
+scalar_below scalar.Raw = omega arith
+scalar_below scalar.Number = omega arith
+scalar_below scalar.Alarms = omega arith
 
-pub last-place : (k : ℕ) → Others k → k < length (scalars_of current) → k ≡ 8
-last-place k n h =
-    let a = past k 0 (omega arith) n.0.0.0.0.0.0.0.1 in
-    let b = past k 3 (past k 2 (past k 1 a n.0.0.0.0.0.0.1) n.0.0.0.0.0.1) n.0.0.0.0.1 in
-    let c = past k 7 (past k 6 (past k 5 (past k 4 b n.0.0.0.1) n.0.0.1) n.0.1) n.1 in
-    omega arith
+-- the code's list has each at its place
+abbrev pub scalar_list : List ScalarField
+scalar_list =
+    scalar.Address ∷ scalar.Access ∷ scalar.Phase ∷ scalar.Flags ∷ scalar.Recipe ∷ scalar.Preset ∷ scalar.Raw ∷ scalar.Number ∷ scalar.Alarms ∷ []
+
+pub scalar_at : (k : ℕ) (f : ScalarField) → k < length scalar_list → scalar_place (get_or scalar_list k f) ≡ k
+scalar_at k f h =
+    eqb-true _ _ (below k (omega arith))
   where
-    past : (i j : ℕ) → j ≤ i → (i ≡ j → ⊥) → j + 1 ≤ i
-    past i j l d = omega arith
-
-pub scalar_last : {k : ℕ} {s : Slot} → Others k → k < length (scalars_of current) → s ≡ get_or scalar_table 8 no_slot → s ≡ get_or (scalar_slots current) k no_slot
-scalar_last {k} {s} n h e = scalar_here 8 (last-place k n h) e
+    below : (i : ℕ) → i < 9 → eqb (scalar_place (get_or scalar_list i f)) i ≡ true
+    below = holds_below (λ (i : ℕ). eqb (scalar_place (get_or scalar_list i f)) i) 9 refl
 
 -- they lie before the parameters', and are of four bytes at most
 module _ (s : Slot) (k : ℕ) (e : s ≡ get_or (scalar_slots current) k no_slot) where
@@ -127,8 +135,8 @@ value_slot at i = item_slot (at + 5 * i) (alone 4 (value i))
 abbrev pub level_slot : ℕ → ℕ → Slot
 level_slot at i = item_slot (at + 5 * i + 4) (alone 1 (level i))
 
-pub value_is : (at i : ℕ) (g : Range) (s : Slot) → g ≡ range_at i → s ≡ slot_of (at + 5 * i) 4 g → s ≡ value_slot at i
-value_is at i g s e q = q ∙ ap (slot_of (at + 5 * i) 4) e
+pub value_is : (at p i : ℕ) (g : Range) (s : Slot) → p ≡ at → g ≡ range_at i → s ≡ slot_of (p + 5 * i) 4 g → s ≡ value_slot at i
+value_is at p i g s b e q = q ∙ (ap (λ (n : ℕ). slot_of (n + 5 * i) 4 g) b ∙ ap (slot_of (at + 5 * i) 4) e)
 
 -- where they end, and how wide they are
 pub value-ends : (at i : ℕ) (s : Slot) → s ≡ value_slot at i → (s.at + s.width ≡ at + 5 * i + 4) × (s.width ≡ 4)

@@ -3,6 +3,7 @@
 use Prim.Native.Nat.{ℕ, zero, suc, ◌+◌, ◌-◌, ◌*◌, ◌^◌, ◌≤◌, ◌<◌}
 use mathlib.Core.Bool.{Bool, true, false, not, ◌&&◌, false≢true}
 use mathlib.Core.Path.{◌≡◌, refl, sym, ap, ◌∙◌}
+use Rattle.std.specs.Prelude.{Option, None, Some, Result, Ok, Err}
 use mathlib.Core.List.{List, [], ◌∷◌, ◌++◌}
 use native.Mathlib.Omega.{arith}
 use native.Mathlib.Numerals.{add-one}
@@ -22,19 +23,15 @@ use Rattle.state.proofs.Parameters.{range_repeats}
 use Rattle.state.specs.Field.{number, alarms, value, level, get, put, field_range, listed, record_from}
 use Rattle.state.proofs.Fields.{with_lists, put-value, put-level}
 use Rattle.state.proofs.Whole.{listed-length}
-use Rattle.stored.specs.declared.Header.{Header}
-use Rattle.stored.specs.declared.Header.TheVariants as header
 use Rattle.stored.specs.declared.Refusal.{Refusal}
-use Rattle.stored.specs.declared.Number.{Number}
-use Rattle.stored.specs.declared.Number.TheVariants as number
-use Rattle.stored.specs.declared.Parameter.{Parameter}
-use Rattle.stored.specs.declared.Parameter.TheVariants as parameter
 use Rattle.stored.specs.declared.Slot.{Slot}
+use Rattle.stored.specs.declared.Version.{Version}
+use Rattle.stored.specs.declared.Version.TheVariants as versions_of
 use Rattle.stored.specs.Layout.{Item, alone, together, bit_mapped, scalar_items, parameter_items, versions, current, header_width, item_width, total_width, parameters_at, item_slot, slots_from, scalar_slots, no_slot, alarms_in, unused_bits, fits, put_item, put_bits, put_all}
-use Rattle.stored.specs.Form.{Outcome, K, done, refusal_number, header_as, number_of, number_at, numbers_in, in_slot, all_fit, version_of, header_of, low_record, taken_from, body_of, after_header, read_of, number_read, alarms_read, alarms_at, pair_read, parameter_read}
+use Rattle.stored.specs.Form.{Outcome, K, done, refusal_number, version_number, header_as, number_of, number_at, numbers_in, in_slot, all_fit, version_of, header_of, low_record, taken_from, body_of, after_header, read_of, number_read, alarms_read, alarms_at, pair_read, parameter_read}
 use Rattle.base.proofs.Lists.{over-put, over_all}
 use Rattle.stored.proofs.Slots.{pair, shared_slots, scalar_shared, value_slot, level_slot, parameters_width}
-use Rattle.stored.proofs.Versions.{Known, version_known, later, body_parts, later_width}
+use Rattle.stored.proofs.Versions.{Known, later, body_parts, later_width}
 use Rattle.stored.proofs.Alarms.{unused_mask}
 
 -- ---- the header
@@ -43,55 +40,55 @@ module _ (s : List ℕ) (v : ℕ) (e : v ≡ version_of (length s)) where
   unfolding header_of
   header_length z = let u : member (version_of (length s)) versions ≡ false = ap (λ (w : ℕ). member w versions) (sym e ∙ z) in simp u
 
-  module _ (z : v ≡ 0 → ⊥) where
-    known : Known (version_of (length s))
-    known = version_known (length s) v e z
+  module _ (known : Known v) where
+    its_known : Known (version_of (length s))
+    its_known = ap (λ (w : ℕ). member w versions) (sym e) ∙ known
 
     pub header_version : (get_or s 0 0 ≡ v → ⊥) → K 2 ≡ header_of s
     unfolding header_of
-    header_version n = simp (known, ne_eqb _ _ (λ q. n (q ∙ sym e)))
+    header_version n = simp (its_known, ne_eqb _ _ (λ q. n (q ∙ sym e)))
 
     module _ (o : get_or s 0 0 ≡ v) (n : ℕ) (i : n ≡ number_of (take 2 (drop 1 s))) where
       pub header_field : (n ≡ length s → ⊥) → K 3 ≡ header_of s
       unfolding header_of
-      header_field d = simp (known, eq-eqb _ _ (o ∙ e), ne_eqb _ _ (λ q. d (i ∙ q)))
+      header_field d = simp (its_known, eq-eqb _ _ (o ∙ e), ne_eqb _ _ (λ q. d (i ∙ q)))
 
       pub header_good : n ≡ length s → done ≡ header_of s
       unfolding header_of
-      header_good d = simp (known, eq-eqb _ _ (o ∙ e), eq-eqb _ _ (sym i ∙ d))
+      header_good d = simp (its_known, eq-eqb _ _ (o ∙ e), eq-eqb _ _ (sym i ∙ d))
 
-pub ruleset heading = (header_length, header_version, header_field, header_good)
+pub ruleset heading = (header_version, header_field, header_good)
 
 -- ---- one number
 pub slot_four : (s : Slot) (bs : List ℕ) → s.width ≤ 4 → length (take (s.at + s.width - s.at) (drop s.at bs)) ≤ 4
 slot_four s bs h = simp (length-take, length-drop) (omega arith)
 
 module _ (s : Slot) (bs : List ℕ) (n : ℕ) (b : Bool) (j : n ≡ number_of (take (s.at + s.width - s.at) (drop s.at bs)))
-    (e : b ≡ between s.low s.high n) where
+    (e : b ≡ between s.range.low s.range.high n) where
   is_number : n ≡ number_at bs s
   is_number = let w : s.at + s.width - s.at ≡ s.width = omega arith in j ∙ ap (λ (m : ℕ). number_of (take m (drop s.at bs))) w
 
   is_inside : b ≡ in_slot s (number_at bs s)
-  is_inside = e ∙ ap (λ (m : ℕ). between s.low s.high m) is_number
+  is_inside = e ∙ ap (λ (m : ℕ). between s.range.low s.range.high m) is_number
 
-  pub read_outside : not b ≡ true → number.Outside ≡ number_read s bs
+  pub read_outside : not b ≡ true → None ≡ number_read s bs
   unfolding number_read
   read_outside h = simp (sym is_inside ∙ not-true b h)
 
-  pub read_inside : not b ≡ false → number.Inside n ≡ number_read s bs
+  pub read_inside : not b ≡ false → Some n ≡ number_read s bs
   unfolding number_read
-  read_inside h = ap number.Inside is_number ∙ simp (sym is_inside ∙ not-false b h)
+  read_inside h = ap Some is_number ∙ simp (sym is_inside ∙ not-false b h)
 
 -- what a number's reader answers tells of its test
-test_outside : (b : Bool) (m : ℕ) → unless b number.Outside (number.Inside m) ≡ number.Outside → b ≡ false
+test_outside : (b : Bool) (m : ℕ) → unless b None (Some m) ≡ None → b ≡ false
 test_outside false m q = refl
 test_outside true m q = let z : ◌≡◌ {A = ℕ} 0 1 = cc in absurd (omega arith)
 
-test_inside : (b : Bool) (m n : ℕ) → unless b number.Outside (number.Inside m) ≡ number.Inside n → (b ≡ true) × (m ≡ n)
+test_inside : (b : Bool) (m n : ℕ) → unless b None (Some m) ≡ Some n → (b ≡ true) × (m ≡ n)
 test_inside true m n q = (refl, let z : m ≡ n = cc in z)
 test_inside false m n q = let z : ◌≡◌ {A = ℕ} 0 1 = cc in absurd (omega arith)
 
-pub told_outside : (s : Slot) (bs : List ℕ) (x : Number) → x ≡ number_read s bs → x ≡ number.Outside → in_slot s (number_at bs s) ≡ false
+pub told_outside : (s : Slot) (bs : List ℕ) (x : Option ℕ) → x ≡ number_read s bs → x ≡ None → in_slot s (number_at bs s) ≡ false
 unfolding number_read
 told_outside s bs x e o = test_outside (in_slot s (number_at bs s)) (number_at bs s) (sym e ∙ o)
 
@@ -99,12 +96,12 @@ pub record Read (s : Slot) (bs : List ℕ) (n : ℕ) : Type 0 where
   pub inside : in_slot s (number_at bs s) ≡ true
   pub is : number_at bs s ≡ n
 
-pub told_inside : (s : Slot) (bs : List ℕ) (x : Number) (n : ℕ) → x ≡ number_read s bs → x ≡ number.Inside n → Read s bs n
+pub told_inside : (s : Slot) (bs : List ℕ) (x : Option ℕ) (n : ℕ) → x ≡ number_read s bs → x ≡ Some n → Read s bs n
 unfolding number_read
 told_inside s bs x n e o = let t = test_inside (in_slot s (number_at bs s)) (number_at bs s) n (sym e ∙ o) in record { inside = t.0; is = t.1 }
 
-pub read_high : (s : Slot) (bs : List ℕ) (n : ℕ) → Read s bs n → n ≤ s.high
-read_high s bs n r = let h = between_high s.low s.high (number_at bs s) r.inside in let e = r.is in omega arith
+pub read_high : (s : Slot) (bs : List ℕ) (n : ℕ) → Read s bs n → n ≤ s.range.high
+read_high s bs n r = let h = between_high s.range.low s.range.high (number_at bs s) r.inside in let e = r.is in omega arith
 
 -- ---- some items, one after the other
 
@@ -209,59 +206,60 @@ all_read bs at (x ∷ xs) (n ∷ ns) r g h =
     all_read bs (at + item_width x) xs ns (put_item x n r) (and_right (ranged x) (all_ranged xs) g) h.1
 
 -- ---- one parameter
-module _ (at i : ℕ) (bs : List ℕ) (s : Slot) (x : Number) (q : s ≡ value_slot at i) (e : x ≡ number_read s bs) where
+module _ (at i : ℕ) (bs : List ℕ) (s : Slot) (x : Option ℕ) (q : s ≡ value_slot at i) (e : x ≡ number_read s bs) where
   by_value : x ≡ number_read (value_slot at i) bs
   by_value = e ∙ ap (λ (t : Slot). number_read t bs) q
 
-  pub value_out : x ≡ number.Outside → parameter.Outside ≡ parameter_read at i bs
+  pub value_out : x ≡ None → None ≡ parameter_read at i bs
   unfolding parameter_read
-  value_out o = ap (λ (y : Number). pair_read y (number_read (level_slot at i) bs)) (sym o ∙ by_value)
+  value_out o = ap (λ (y : Option ℕ). pair_read y (number_read (level_slot at i) bs)) (sym o ∙ by_value)
 
-  module _ (n : ℕ) (v : x ≡ number.Inside n) (t : Slot) (y : Number) (p : t ≡ level_slot at i) (f : y ≡ number_read t bs) where
+  module _ (n : ℕ) (v : x ≡ Some n) (t : Slot) (y : Option ℕ) (p : t ≡ level_slot at i) (f : y ≡ number_read t bs) where
     by_level : y ≡ number_read (level_slot at i) bs
     by_level = f ∙ ap (λ (u : Slot). number_read u bs) p
 
-    pair_is : pair_read (number.Inside n) y ≡ parameter_read at i bs
+    pair_is : pair_read (Some n) y ≡ parameter_read at i bs
     unfolding parameter_read
-    pair_is = ap (λ (z : Number). pair_read z y) (sym v ∙ by_value) ∙ ap (pair_read (number_read (value_slot at i) bs)) by_level
+    pair_is = ap (λ (z : Option ℕ). pair_read z y) (sym v ∙ by_value) ∙ ap (pair_read (number_read (value_slot at i) bs)) by_level
 
-    pub level_out : y ≡ number.Outside → parameter.Outside ≡ parameter_read at i bs
-    level_out o = ap (pair_read (number.Inside n)) (sym o) ∙ pair_is
+    pub level_out : y ≡ None → None ≡ parameter_read at i bs
+    level_out o = ap (pair_read (Some n)) (sym o) ∙ pair_is
 
-    pub level_byte : (m : ℕ) → y ≡ number.Inside m → m < 256
+    pub level_byte : (m : ℕ) → y ≡ Some m → m < 256
     level_byte m l = let h : m ≤ 3 = read_high (level_slot at i) bs m (told_inside (level_slot at i) bs y m by_level l) in omega arith
 
-    pub both_in : (m : ℕ) → y ≡ number.Inside m → parameter.Inside n m ≡ parameter_read at i bs
-    both_in m l = ap (pair_read (number.Inside n)) (sym l) ∙ pair_is
+    pub both_in : (m : ℕ) → y ≡ Some m → Some (n, m) ≡ parameter_read at i bs
+    both_in m l = ap (pair_read (Some n)) (sym l) ∙ pair_is
 
 -- what its reader's answer tells
-parameter_inside : (at i : ℕ) (bs : List ℕ) (n m : ℕ) → parameter.Inside n m ≡ parameter_read at i bs → Read (value_slot at i) bs n × Read (level_slot at i) bs m
+parameter_inside : (at i : ℕ) (bs : List ℕ) (n m : ℕ) → Some (n, m) ≡ parameter_read at i bs → Read (value_slot at i) bs n × Read (level_slot at i) bs m
 unfolding parameter_read
 parameter_inside at i bs n m e = go (number_read (value_slot at i) bs) (number_read (level_slot at i) bs) refl refl e
   where
-    go : (x y : Number) → x ≡ number_read (value_slot at i) bs → y ≡ number_read (level_slot at i) bs → parameter.Inside n m ≡ pair_read x y
+    go : (x y : Option ℕ) → x ≡ number_read (value_slot at i) bs → y ≡ number_read (level_slot at i) bs → Some (n, m) ≡ pair_read x y
         → Read (value_slot at i) bs n × Read (level_slot at i) bs m
-    go number.Outside y p q o = let z : ◌≡◌ {A = ℕ} 0 1 = cc in absurd (omega arith)
-    go (number.Inside v) number.Outside p q o = let z : ◌≡◌ {A = ℕ} 0 1 = cc in absurd (omega arith)
-    go (number.Inside v) (number.Inside l) p q o =
-        let a : n ≡ v = cc in
-        let b : m ≡ l = cc in (
-          told_inside (value_slot at i) bs (number.Inside v) n p (ap number.Inside (sym a)),
-          told_inside (level_slot at i) bs (number.Inside l) m q (ap number.Inside (sym b)),
+    go None y p q o = let z : ◌≡◌ {A = ℕ} 0 1 = cc in absurd (omega arith)
+    go (Some v) None p q o = let z : ◌≡◌ {A = ℕ} 0 1 = cc in absurd (omega arith)
+    go (Some v) (Some l) p q o =
+        let both : ◌≡◌ {A = ℕ × ℕ} (n, m) (v, l) = cc in
+        let a : n ≡ v = ap (λ (w : ℕ × ℕ). w.0) both in
+        let b : m ≡ l = ap (λ (w : ℕ × ℕ). w.1) both in (
+          told_inside (value_slot at i) bs (Some v) n p (ap Some (sym a)),
+          told_inside (level_slot at i) bs (Some l) m q (ap Some (sym b)),
         )
 
-parameter_outside : (at i : ℕ) (bs : List ℕ) → parameter.Outside ≡ parameter_read at i bs
+parameter_outside : (at i : ℕ) (bs : List ℕ) → None ≡ parameter_read at i bs
     → (in_slot (value_slot at i) (number_at bs (value_slot at i)) && in_slot (level_slot at i) (number_at bs (level_slot at i))) ≡ false
 unfolding parameter_read
 parameter_outside at i bs e = go (number_read (value_slot at i) bs) (number_read (level_slot at i) bs) refl refl e
   where
-    go : (x y : Number) → x ≡ number_read (value_slot at i) bs → y ≡ number_read (level_slot at i) bs → parameter.Outside ≡ pair_read x y
+    go : (x y : Option ℕ) → x ≡ number_read (value_slot at i) bs → y ≡ number_read (level_slot at i) bs → None ≡ pair_read x y
         → (in_slot (value_slot at i) (number_at bs (value_slot at i)) && in_slot (level_slot at i) (number_at bs (level_slot at i))) ≡ false
-    go number.Outside y p q o = simp (told_outside (value_slot at i) bs number.Outside p refl)
-    go (number.Inside v) number.Outside p q o =
+    go None y p q o = simp (told_outside (value_slot at i) bs None p refl)
+    go (Some v) None p q o =
         and_no (in_slot (value_slot at i) (number_at bs (value_slot at i))) (in_slot (level_slot at i) (number_at bs (level_slot at i)))
-        (λ a b. false≢true (sym (told_outside (level_slot at i) bs number.Outside q refl) ∙ b))
-    go (number.Inside v) (number.Inside l) p q o = let z : ◌≡◌ {A = ℕ} 0 1 = cc in absurd (omega arith)
+        (λ a b. false≢true (sym (told_outside (level_slot at i) bs None q refl) ∙ b))
+    go (Some v) (Some l) p q o = let z : ◌≡◌ {A = ℕ} 0 1 = cc in absurd (omega arith)
 
 -- each recipe's ranges are those of the first
 pub recipe-range : (g : Range) (r k : ℕ) → r < recipes → k < 3 → g ≡ range_at k → g ≡ range_at (3 * r + k)
@@ -316,38 +314,23 @@ module _ (bs : List ℕ) (at : ℕ) where
           taken_unfit bs (at + 5 * i + 4) (alone 1 (level i)) [] (put (value i) (number_at bs (value_slot at i)) r) l)
           (λ v. taken_unfit bs (at + 5 * i) (alone 4 (value i)) (alone 1 (level i) ∷ []) r v)
 
-      module _ (x : Parameter) (e : x ≡ parameter_read at i bs) where
-        pub both_inside : (n m : ℕ) → x ≡ parameter.Inside n m → taken (i + 1) ≡ (done, with_lists (set r.values i n) (set r.levels i m) r)
+      module _ (x : Option (ℕ × ℕ)) (e : x ≡ parameter_read at i bs) where
+        pub both_inside : (n m : ℕ) → x ≡ Some (n, m) → taken (i + 1) ≡ (done, with_lists (set r.values i n) (set r.levels i m) r)
         both_inside n m o = let q = parameter_inside at i bs n m (sym o ∙ e) in next_inside n m q.0 q.1
 
-        pub one_outside : i < parameter_count → x ≡ parameter.Outside → (a : Outcome) (s : Record) → a ≡ K 4 → s ≡ low_record → (a, s) ≡ taken parameter_count
-        one_outside h o a s p q =
+        pub one_outside : i < parameter_count → x ≡ None → (K 4, low_record) ≡ taken parameter_count
+        one_outside h o =
             let z : i + 1 + (parameter_count - (i + 1)) ≡ parameter_count = omega arith in
-            let same : ◌≡◌ {A = Outcome × Record} (a, s) (K 4, low_record) = cc in
-            same ∙ (sym (later-refused (i + 1) (parameter_count - (i + 1)) (next_outside (parameter_outside at i bs (sym o ∙ e)))) ∙ ap taken z)
+            sym (later-refused (i + 1) (parameter_count - (i + 1)) (next_outside (parameter_outside at i bs (sym o ∙ e)))) ∙ ap taken z
 
     pub all_taken : (r : Record) (i : ℕ) → taken i ≡ (done, r) → i ≤ parameter_count → parameter_count ≤ i → (done, r) ≡ taken parameter_count
     all_taken r i e h l = let z : i ≡ parameter_count = omega arith in sym e ∙ ap taken z
 
-  -- from what the first i parameters' numbers make of a record, those up to j make this
-  abbrev pub Further : Record → ℕ → Record → ℕ → Type 0
-  Further f i g j = (before : Record) → taken before i ≡ (done, f) → taken before j ≡ (done, g)
-
-  -- recipe by recipe, kind by kind
-  module _ (before f : Record) (r : ℕ) where
-    pub recipe_begun : taken before (3 * r) ≡ (done, f) → taken before (3 * r + 0) ≡ (done, f)
-    recipe_begun e = let z : 3 * r ≡ 3 * r + 0 = omega arith in ap (taken before) (sym z) ∙ e
-
-    pub recipes-ended : r ≤ recipes → recipes ≤ r → taken before (3 * r) ≡ (done, f) → taken before (3 * recipes) ≡ (done, f)
-    recipes-ended h l e = let z : 3 * r ≡ 3 * recipes = omega arith in ap (taken before) (sym z) ∙ e
-
-    module _ (k : ℕ) where
-      pub recipe-ended : k ≤ 3 → 3 ≤ k → taken before (3 * r + k) ≡ (done, f) → taken before (3 * (r + 1)) ≡ (done, f)
-      recipe-ended h l e = let z : 3 * r + k ≡ 3 * (r + 1) = omega arith in ap (taken before) (sym z) ∙ e
-
-      pub next_kind : taken before (3 * r + k) ≡ (done, f) → (x : Parameter) → x ≡ parameter_read at (3 * r + k) bs → (n m : ℕ) → x ≡ parameter.Inside n m
-          → taken before (3 * r + (k + 1)) ≡ (done, with_lists (set f.values (3 * r + k) n) (set f.levels (3 * r + k) m) f)
-      next_kind e x q n m o = let z : 3 * r + (k + 1) ≡ 3 * r + k + 1 = omega arith in ap (taken before) z ∙ both_inside before f (3 * r + k) e x q n m o
+  -- the next kind of a recipe
+  pub next_kind : (before f : Record) (r k : ℕ) → taken before (3 * r + k) ≡ (done, f) → (x : Option (ℕ × ℕ)) → x ≡ parameter_read at (3 * r + k) bs → (n m : ℕ) → x ≡ Some (n, m)
+      → taken before (3 * r + (k + 1)) ≡ (done, with_lists (set f.values (3 * r + k) n) (set f.levels (3 * r + k) m) f)
+  next_kind before f r k e x q n m o =
+      let z : 3 * r + (k + 1) ≡ 3 * r + k + 1 = omega arith in ap (taken before) z ∙ both_inside before f (3 * r + k) e x q n m o
 
   -- ---- all parameters' numbers are stored: what the record's lists held before does not show
   abbrev all_both : ℕ → Bool
@@ -417,32 +400,32 @@ unfolding put alarms_in
 no_alarm-put r e = ap (λ (n : ℕ). put alarms n r) (sym e)
 
 -- the alarms' reader, a law for each return
-module _ (bs : List ℕ) (v : ℕ) where
-  pub alarms-none : v ≡ 1 → number.Inside 0 ≡ alarms_at v bs
+module _ (bs : List ℕ) (v : Version) where
+  pub alarms_none : v ≡ versions_of.WithoutAlarms → Some 0 ≡ alarms_at (version_number v) bs
   unfolding alarms_at
-  alarms-none e = simp (eq-eqb _ _ e)
+  alarms_none e = simp e
 
-  module _ (z : v ≡ 1 → ⊥) (t : Slot) (q : t ≡ get_or (scalar_slots current) 8 no_slot) (x : Number) (e : x ≡ number_read t bs) where
-    alarms_are : alarms_read x ≡ alarms_at v bs
+  module _ (z : v ≡ versions_of.WithAlarms) (t : Slot) (q : t ≡ get_or (scalar_slots current) 8 no_slot) (x : Option ℕ) (e : x ≡ number_read t bs) where
+    alarms_are : alarms_read x ≡ alarms_at (version_number v) bs
     unfolding alarms_at slots_from
-    alarms_are = ap alarms_read (e ∙ ap (λ (u : Slot). number_read u bs) q) ∙ simp (ne_eqb _ _ z)
+    alarms_are = ap alarms_read (e ∙ ap (λ (u : Slot). number_read u bs) q) ∙ simp z
 
-    pub alarms_beyond : x ≡ number.Outside → number.Outside ≡ alarms_at v bs
+    pub alarms_beyond : x ≡ None → None ≡ alarms_at (version_number v) bs
     unfolding alarms_read
     alarms_beyond o = ap alarms_read (sym o) ∙ alarms_are
 
-    module _ (n : ℕ) (i : x ≡ number.Inside n) where
-      pub alarms_unused : (bit_and n 0x8f ≡ 0 → ⊥) → number.Outside ≡ alarms_at v bs
+    module _ (n : ℕ) (i : x ≡ Some n) where
+      pub alarms_unused : (bit_and n 0x8f ≡ 0 → ⊥) → None ≡ alarms_at (version_number v) bs
       unfolding alarms_read
       alarms_unused u =
-          let d : number.Outside ≡ alarms_read (number.Inside n) = simp (unused_mask, ne_eqb _ _ u) in d ∙ (ap alarms_read (sym i) ∙ alarms_are)
+          let d : None ≡ alarms_read (Some n) = simp (unused_mask, ne_eqb _ _ u) in d ∙ (ap alarms_read (sym i) ∙ alarms_are)
 
-      pub alarms_used : bit_and n 0x8f ≡ 0 → number.Inside n ≡ alarms_at v bs
+      pub alarms_used : bit_and n 0x8f ≡ 0 → Some n ≡ alarms_at (version_number v) bs
       unfolding alarms_read
       alarms_used u =
-          let d : number.Inside n ≡ alarms_read (number.Inside n) = simp (unused_mask, eq-eqb _ _ u) in d ∙ (ap alarms_read (sym i) ∙ alarms_are)
+          let d : Some n ≡ alarms_read (Some n) = simp (unused_mask, eq-eqb _ _ u) in d ∙ (ap alarms_read (sym i) ∙ alarms_are)
 
-pub ruleset alarming = (alarms-none, alarms_beyond, alarms_unused, alarms_used)
+pub ruleset alarming = (alarms_none, alarms_beyond, alarms_unused, alarms_used)
 
 low_values : length low_record.values ≡ parameter_count
 unfolding low_record record_from
@@ -475,32 +458,31 @@ module _ (bs : List ℕ) where
     unfolding body_of
     body_begun = ap (λ (xs : List Item). taken_from header_width xs bs low_record) (body_parts version known)
 
-    pub body_outside : (k : ℕ) (t : Slot) (x : Number) (a : Outcome) (s : Record) → k < length scalar_items → t ≡ get_or (scalar_slots current) k no_slot → x ≡ number_read t bs
-        → x ≡ number.Outside → a ≡ K 4 → s ≡ low_record → (a, s) ≡ body_of bs
-    body_outside k t x a s h i e o p q =
-        let both : ◌≡◌ {A = Outcome × Record} (a, s) (K 4, low_record) = cc in
+    pub body_outside : (k : ℕ) (t : Slot) (x : Option ℕ) → k < length scalar_items → t ≡ get_or (scalar_slots current) k no_slot → x ≡ number_read t bs
+        → x ≡ None → (K 4, low_record) ≡ body_of bs
+    body_outside k t x h i e o =
         let u : get_or shared_slots k no_slot ≡ t = sym (scalar_shared t k i h) in
-        both ∙ sym (body_begun ∙
+        sym (body_begun ∙
         taken_refused bs header_width scalar_items (later version ++ parameter_items parameter_count) low_record
         (outside_at header_width scalar_items k low_record h (told_outside _ bs x (e ∙ ap (λ (w : Slot). number_read w bs) (sym u)) o)))
 
-  place-told : (k : ℕ) (t : Slot) (x : Number) (n : ℕ) → k < length scalar_items → t ≡ get_or (scalar_slots current) k no_slot → x ≡ number_read t bs → x ≡ number.Inside n
+  place-told : (k : ℕ) (t : Slot) (x : Option ℕ) (n : ℕ) → k < length scalar_items → t ≡ get_or (scalar_slots current) k no_slot → x ≡ number_read t bs → x ≡ Some n
       → Read (get_or shared_slots k no_slot) bs n
   place-told k t x n h q e i = told_inside (get_or shared_slots k no_slot) bs x n (e ∙ ap (λ (u : Slot). number_read u bs) (scalar_shared t k q h)) i
 
   -- the first five numbers are bytes, and the last is of two
-  module _ (k : ℕ) (t : Slot) (x : Number) (n : ℕ) (q : t ≡ get_or (scalar_slots current) k no_slot) (e : x ≡ number_read t bs) (i : x ≡ number.Inside n) where
-    below_high : (high : ℕ) → k < length scalar_items → (get_or shared_slots k no_slot).high < high → n < high
+  module _ (k : ℕ) (t : Slot) (x : Option ℕ) (n : ℕ) (q : t ≡ get_or (scalar_slots current) k no_slot) (e : x ≡ number_read t bs) (i : x ≡ Some n) where
+    below_high : (high : ℕ) → k < length scalar_items → (get_or shared_slots k no_slot).range.high < high → n < high
     below_high high h l = let m = read_high (get_or shared_slots k no_slot) bs n (place-told k t x n h q e i) in omega arith
 
     pub is_byte : k < 5 → n < 256
     unfolding slots_from
-    is_byte h = below_high 256 (omega arith) (ltb-true _ _ (holds_below (λ (j : ℕ). ltb (get_or shared_slots j no_slot).high 256) 5 refl k h))
+    is_byte h = below_high 256 (omega arith) (ltb-true _ _ (holds_below (λ (j : ℕ). ltb (get_or shared_slots j no_slot).range.high 256) 5 refl k h))
 
     pub is_two_bytes : k ≡ 7 → n < 65536
     unfolding slots_from
     is_two_bytes h =
-        let l : (get_or shared_slots k no_slot).high ≡ (field_range number).high = ap (λ (j : ℕ). (get_or shared_slots j no_slot).high) h in
+        let l : (get_or shared_slots k no_slot).range.high ≡ (field_range number).high = ap (λ (j : ℕ). (get_or shared_slots j no_slot).range.high) h in
         below_high 65536 (omega arith) (omega arith)
 
   -- refused by later items, whatever the first make of the record, refused by all
@@ -518,24 +500,24 @@ module _ (bs : List ℕ) where
   -- ---- the alarms
 
   -- their number is tested as it fits
-  alarms_tested : alarms_read (number_read alarms_slot bs) ≡ unless (fits bit_mapped (number_at bs alarms_slot)) number.Outside (number.Inside (number_at bs alarms_slot))
+  alarms_tested : alarms_read (number_read alarms_slot bs) ≡ unless (fits bit_mapped (number_at bs alarms_slot)) None (Some (number_at bs alarms_slot))
   unfolding alarms_read number_read
   alarms_tested = go (in_slot alarms_slot (number_at bs alarms_slot))
     where
-      go : (b : Bool) → alarms_read (unless b number.Outside (number.Inside (number_at bs alarms_slot)))
-          ≡ unless (b && eqb (bit_and (number_at bs alarms_slot) unused_bits) 0) number.Outside (number.Inside (number_at bs alarms_slot))
+      go : (b : Bool) → alarms_read (unless b None (Some (number_at bs alarms_slot)))
+          ≡ unless (b && eqb (bit_and (number_at bs alarms_slot) unused_bits) 0) None (Some (number_at bs alarms_slot))
       go true = refl
       go false = refl
 
-  module _ (x : Number) (r : Record) where
+  module _ (x : Option ℕ) (r : Record) where
     -- by whether the version has none
-    alarms-out : (b : Bool) → x ≡ pick b (number.Inside 0) (alarms_read (number_read alarms_slot bs)) → x ≡ number.Outside
+    alarms-out : (b : Bool) → x ≡ pick b (Some 0) (alarms_read (number_read alarms_slot bs)) → x ≡ None
         → taken_from (parameters_at 1) (pick b [] (bit_mapped ∷ [])) bs r ≡ (K 4, low_record)
     alarms-out true e o = absurd (false≢true (sym (test_outside true 0 (sym e ∙ o))))
     alarms-out false e o =
         taken_unfit bs (parameters_at 1) bit_mapped [] r (test_outside (fits bit_mapped (number_at bs alarms_slot)) (number_at bs alarms_slot) (sym alarms_tested ∙ (sym e ∙ o)))
 
-    alarms_in_lem : (b : Bool) (n : ℕ) → x ≡ pick b (number.Inside 0) (alarms_read (number_read alarms_slot bs)) → x ≡ number.Inside n → get alarms r ≡ no_alarm
+    alarms_in_lem : (b : Bool) (n : ℕ) → x ≡ pick b (Some 0) (alarms_read (number_read alarms_slot bs)) → x ≡ Some n → get alarms r ≡ no_alarm
         → taken_from (parameters_at 1) (pick b [] (bit_mapped ∷ [])) bs r ≡ (done, put alarms (alarms_in n) r)
     unfolding taken_from slots_from numbers_in all_fit put_all
     alarms_in_lem true n e i a =
@@ -545,27 +527,26 @@ module _ (bs : List ℕ) where
         let t = test_inside (fits bit_mapped (number_at bs alarms_slot)) (number_at bs alarms_slot) n (sym alarms_tested ∙ (sym e ∙ i)) in
         taken-fitting bs (parameters_at 1) bit_mapped [] r n (record { inside = t.0; is = t.1 })
 
-  module _ (known : Known version) (v : ℕ) (w : v ≡ version) (x : Number) (e : x ≡ alarms_at v bs) where
-    of_version : x ≡ pick (eqb version 1) (number.Inside 0) (alarms_read (number_read alarms_slot bs))
+  module _ (known : Known version) (v : ℕ) (w : v ≡ version) (x : Option ℕ) (e : x ≡ alarms_at v bs) where
+    of_version : x ≡ pick (eqb version 1) (Some 0) (alarms_read (number_read alarms_slot bs))
     unfolding alarms_at
     of_version = e ∙ ap (λ (u : ℕ). alarms_at u bs) w
 
-    pub alarms_outside : (a : Outcome) (s : Record) → x ≡ number.Outside → a ≡ K 4 → s ≡ low_record → (a, s) ≡ body_of bs
-    alarms_outside a s o p q =
-        let both : ◌≡◌ {A = Outcome × Record} (a, s) (K 4, low_record) = cc in
-        both ∙ sym (body_begun known ∙
+    pub alarms_outside : x ≡ None → (K 4, low_record) ≡ body_of bs
+    alarms_outside o =
+        sym (body_begun known ∙
         taken-later header_width scalar_items (later version ++ parameter_items parameter_count) low_record
         (λ r. taken_refused bs (parameters_at 1) (later version) (parameter_items parameter_count) r (alarms-out x r (eqb version 1) of_version o)))
 
-    module _ (t₀ t₁ t₂ t₃ t₄ t₅ t₆ t₇ : Slot) (x₀ x₁ x₂ x₃ x₄ x₅ x₆ x₇ : Number) (n₀ n₁ n₂ n₃ n₄ n₅ n₆ n₇ : ℕ)
-        (q₀ : t₀ ≡ get_or (scalar_slots current) 0 no_slot) (e₀ : x₀ ≡ number_read t₀ bs) (i₀ : x₀ ≡ number.Inside n₀)
-        (q₁ : t₁ ≡ get_or (scalar_slots current) 1 no_slot) (e₁ : x₁ ≡ number_read t₁ bs) (i₁ : x₁ ≡ number.Inside n₁)
-        (q₂ : t₂ ≡ get_or (scalar_slots current) 2 no_slot) (e₂ : x₂ ≡ number_read t₂ bs) (i₂ : x₂ ≡ number.Inside n₂)
-        (q₃ : t₃ ≡ get_or (scalar_slots current) 3 no_slot) (e₃ : x₃ ≡ number_read t₃ bs) (i₃ : x₃ ≡ number.Inside n₃)
-        (q₄ : t₄ ≡ get_or (scalar_slots current) 4 no_slot) (e₄ : x₄ ≡ number_read t₄ bs) (i₄ : x₄ ≡ number.Inside n₄)
-        (q₅ : t₅ ≡ get_or (scalar_slots current) 5 no_slot) (e₅ : x₅ ≡ number_read t₅ bs) (i₅ : x₅ ≡ number.Inside n₅)
-        (q₆ : t₆ ≡ get_or (scalar_slots current) 6 no_slot) (e₆ : x₆ ≡ number_read t₆ bs) (i₆ : x₆ ≡ number.Inside n₆)
-        (q₇ : t₇ ≡ get_or (scalar_slots current) 7 no_slot) (e₇ : x₇ ≡ number_read t₇ bs) (i₇ : x₇ ≡ number.Inside n₇) where
+    module _ (t₀ t₁ t₂ t₃ t₄ t₅ t₆ t₇ : Slot) (x₀ x₁ x₂ x₃ x₄ x₅ x₆ x₇ : Option ℕ) (n₀ n₁ n₂ n₃ n₄ n₅ n₆ n₇ : ℕ)
+        (q₀ : t₀ ≡ get_or (scalar_slots current) 0 no_slot) (e₀ : x₀ ≡ number_read t₀ bs) (i₀ : x₀ ≡ Some n₀)
+        (q₁ : t₁ ≡ get_or (scalar_slots current) 1 no_slot) (e₁ : x₁ ≡ number_read t₁ bs) (i₁ : x₁ ≡ Some n₁)
+        (q₂ : t₂ ≡ get_or (scalar_slots current) 2 no_slot) (e₂ : x₂ ≡ number_read t₂ bs) (i₂ : x₂ ≡ Some n₂)
+        (q₃ : t₃ ≡ get_or (scalar_slots current) 3 no_slot) (e₃ : x₃ ≡ number_read t₃ bs) (i₃ : x₃ ≡ Some n₃)
+        (q₄ : t₄ ≡ get_or (scalar_slots current) 4 no_slot) (e₄ : x₄ ≡ number_read t₄ bs) (i₄ : x₄ ≡ Some n₄)
+        (q₅ : t₅ ≡ get_or (scalar_slots current) 5 no_slot) (e₅ : x₅ ≡ number_read t₅ bs) (i₅ : x₅ ≡ Some n₅)
+        (q₆ : t₆ ≡ get_or (scalar_slots current) 6 no_slot) (e₆ : x₆ ≡ number_read t₆ bs) (i₆ : x₆ ≡ Some n₆)
+        (q₇ : t₇ ≡ get_or (scalar_slots current) 7 no_slot) (e₇ : x₇ ≡ number_read t₇ bs) (i₇ : x₇ ≡ Some n₇) where
       abbrev ns : List ℕ
       ns = n₀ ∷ n₁ ∷ n₂ ∷ n₃ ∷ n₄ ∷ n₅ ∷ n₆ ∷ n₇ ∷ []
 
@@ -586,38 +567,38 @@ module _ (bs : List ℕ) where
       unfolding put_all put_bits put
       lists_stay a = refl
 
-      pub body_inside : (n : ℕ) → x ≡ number.Inside n → (made : Record) (vs ls : List ℕ) (at : ℕ) (a : Outcome) (s : Record) → length vs ≡ parameter_count → length ls ≡ parameter_count
-          → made ≡ with_lists vs ls (put alarms (alarms_in n) scalars) → at ≡ parameters_at v → (a, s) ≡ taken_from at (parameter_items parameter_count) bs made → (a, s) ≡ body_of bs
-      body_inside n i made vs ls at a s lv ll m p f =
+      pub body_inside : (n : ℕ) → x ≡ Some n → (made : Record) (vs ls : List ℕ) (read : Outcome × Record) → length vs ≡ parameter_count → length ls ≡ parameter_count
+          → made ≡ with_lists vs ls (put alarms (alarms_in n) scalars) → read ≡ taken_from (parameters_at v) (parameter_items parameter_count) bs made → read ≡ body_of bs
+      body_inside n i made vs ls read lv ll m f =
           let start : ℕ = parameters_at version in
-          let read : Record → Outcome × Record = λ r. taken bs start r parameter_count in
+          let from : Record → Outcome × Record = λ r. taken bs start r parameter_count in
           let filled : Record = put alarms (alarms_in n) scalars in
           f ∙
-          (ap (λ (k : ℕ). taken_from k (parameter_items parameter_count) bs made) (p ∙ ap parameters_at w) ∙
-          (ap read m ∙
+          (ap (λ (k : ℕ). taken_from k (parameter_items parameter_count) bs made) (ap parameters_at w) ∙
+          (ap from m ∙
           (lists_new bs start filled vs ls low_record.values low_record.levels lv ll low_values low_levels ∙
-          (ap read (lists_stay (alarms_in n)) ∙
+          (ap from (lists_stay (alarms_in n)) ∙
           sym (body_begun known ∙
           (taken-done bs header_width scalar_items (later version ++ parameter_items parameter_count) low_record scalars all_inside ∙
           (taken-done bs (parameters_at 1) (later version) (parameter_items parameter_count) scalars filled (alarms_in_lem x scalars (eqb version 1) n of_version i no_alarm_yet) ∙
           ap (λ (k : ℕ). taken_from k (parameter_items parameter_count) bs filled) (later_width version))))))))
 
 -- ---- all
+
+-- the length's version is none: K1
 first_done : (b : Bool) (k : ℕ) (o : Outcome) → done ≡ unless b (K k) o → b ≡ true
 first_done true k o q = refl
 first_done false k o q = let z : ◌≡◌ {A = ℕ} 0 1 = cc in absurd (omega arith)
 
-module _ (s : List ℕ) (h : Header) (e : header_as h ≡ header_of s) where
-  pub read_refused : (k : Refusal) (a : Outcome) (r : Record) → h ≡ header.Refused k → a ≡ K (refusal_number k) → r ≡ low_record → (a, r) ≡ read_of s
+module _ (s : List ℕ) (h : Result (Unit {0}) Refusal) (e : header_as h ≡ header_of s) where
+  pub read_refused : (k : Refusal) → h ≡ Err k → (K (refusal_number k), low_record) ≡ read_of s
   unfolding read_of
-  read_refused k a r q p t =
-      let both : ◌≡◌ {A = Outcome × Record} (a, r) (K (refusal_number k), low_record) = cc in
-      both ∙ ap (λ (x : Outcome). after_header x s) (ap header_as (sym q) ∙ e)
+  read_refused k q = ap (λ (x : Outcome). after_header x s) (ap header_as (sym q) ∙ e)
 
-  pub good_version : h ≡ header.Good → Known (version_of (length s))
+  pub good_version : (u : Unit {0}) → h ≡ Ok u → Known (version_of (length s))
   unfolding header_of
-  good_version q = first_done _ 1 _ (ap header_as (sym q) ∙ e)
+  good_version u q = first_done _ 1 _ (ap header_as (sym q) ∙ e)
 
-  pub read_good : (a : Outcome) (r : Record) → h ≡ header.Good → (a, r) ≡ body_of s → (a, r) ≡ read_of s
+  pub read_good : (u : Unit {0}) → h ≡ Ok u → (x : Outcome × Record) → x ≡ body_of s → x ≡ read_of s
   unfolding read_of
-  read_good a r q b = b ∙ ap (λ (x : Outcome). after_header x s) (ap header_as (sym q) ∙ e)
+  read_good u q x b = b ∙ ap (λ (x : Outcome). after_header x s) (ap header_as (sym q) ∙ e)

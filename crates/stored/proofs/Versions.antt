@@ -13,8 +13,11 @@ use Rattle.base.specs.Test.{pick, member}
 use Rattle.base.proofs.Tests.{by_test, and_left, and_right}
 use Rattle.state.specs.Parameter.{parameter_count}
 use Rattle.stored.specs.declared.Slot.{Slot}
+use Rattle.stored.specs.declared.Version.{Version}
+use Rattle.stored.specs.declared.Version.TheVariants as version
 use Rattle.stored.specs.Layout.{Item, bit_mapped, scalar_items, parameter_items, versions, current, scalars_of, items, header_width, total_width, parameters_at, scalar_slots, no_slot}
-use Rattle.stored.specs.Form.{stored_length, version_in, version_of}
+use Rattle.std.specs.Prelude.{Option, Some}
+use Rattle.stored.specs.Form.{stored_length, version_in, version_of, version_number, version_as}
 use Rattle.stored.proofs.Slots.{width_append, slot_room, scalar_ends, scalar_short, scalar_shared, parameters_width, stored_177, stored_180}
 
 -- ---- a test that holds of each of several numbers holds of one of them
@@ -58,8 +61,16 @@ pub version_length : (l : ℕ) → Known (version_of l) → l ≡ stored_length 
 version_length l k =
     ⊎_elim (λ (z : version_of l ≡ 0). absurd (false≢true (ap (λ (v : ℕ). member v versions) (sym z) ∙ k))) (λ x. x.1) (found versions l)
 
-pub version_known : (l v : ℕ) → v ≡ version_of l → (v ≡ 0 → ⊥) → Known (version_of l)
-version_known l v e n = ⊎_elim (λ (z : version_of l ≡ 0). absurd (n (e ∙ z))) (λ x. x.0) (found versions l)
+-- those that the code has are
+pub number_known : (v : Version) → Known (version_number v)
+number_known version.WithoutAlarms = refl
+number_known version.WithAlarms = refl
+
+pub version_found : (o : Option Version) (v : Version) (l : ℕ) → version_as o ≡ version_of l → o ≡ Some v → version_number v ≡ version_of l
+version_found o v l e q = sym (ap version_as q) ∙ e
+
+pub of_length : (v : Version) (l : ℕ) → version_number v ≡ version_of l → Known (version_of l)
+of_length v l e = ap (λ (w : ℕ). member w versions) (sym e) ∙ number_known v
 
 -- a length that none has
 pub none_found : (vs : List ℕ) (l : ℕ) → member l (map stored_length vs) ≡ false → version_in vs l ≡ 0
@@ -91,11 +102,7 @@ length_parts v k =
     let i : total_width (items v) ≡ total_width (scalars_of v ++ parameter_items parameter_count) = ap total_width (items_parts v k) in
     length-items v k ∙ omega arith
 
--- the parameters of no version begin behind those of the version that is written
-parameters_low : (v : ℕ) → Known v → parameters_at v ≤ parameters_at current
-parameters_low v k = leb-true _ _ (by_versions (λ (w : ℕ). leb (parameters_at w) (parameters_at current)) refl v k)
-
--- nor before those of the first
+-- the parameters of no version begin before those of the first
 parameters_high : (v : ℕ) → Known v → parameters_at 1 ≤ parameters_at v
 parameters_high v k = leb-true _ _ (by_versions (λ (w : ℕ). leb (parameters_at 1) (parameters_at w)) refl v k)
 
@@ -107,8 +114,8 @@ version_room l k = let e = version_length l k in let p = length_parts (version_o
 version_long : (l : ℕ) → Known (version_of l) → parameters_at 1 + 5 * parameter_count ≤ l
 version_long l k = let r = version_room l k in let h = parameters_high (version_of l) k in omega arith
 
-pub header_room : (l v : ℕ) → v ≡ version_of l → (v ≡ 0 → ⊥) → header_width ≤ l
-header_room l v e n = let r = version_long l (version_known l v e n) in omega arith
+pub header_room : (l : ℕ) → Known (version_of l) → header_width ≤ l
+header_room l k = let r = version_long l k in omega arith
 
 pub scalar_room : (l : ℕ) → Known (version_of l) → (k : ℕ) (t : Slot) → k < length scalar_items → t ≡ get_or (scalar_slots current) k no_slot → (t.at + t.width ≤ l) × (t.width ≤ 4)
 scalar_room l known k t h i =
@@ -118,15 +125,11 @@ scalar_room l known k t h i =
     let w = ap (λ (u : Slot). u.width) (scalar_shared t k i h) in
     (omega arith, scalar_short t k i (omega arith))
 
-pub parameters_room : (l v at : ℕ) → Known (version_of l) → v ≡ version_of l → at ≡ parameters_at v → (at ≤ parameters_at current) × (at + 5 * parameter_count ≤ l)
-parameters_room l v at k e q =
-    let p : at ≡ parameters_at (version_of l) = q ∙ ap parameters_at e in
-    let r = version_room l k in
-    let h = parameters_low (version_of l) k in
-    (omega arith, omega arith)
+pub parameters_room : (l v : ℕ) → Known (version_of l) → v ≡ version_of l → parameters_at v + 5 * parameter_count ≤ l
+parameters_room l v k e = let r = version_room l k in let p : parameters_at v ≡ parameters_at (version_of l) = ap parameters_at e in omega arith
 
 pub alarms_reach : (l v : ℕ) → Known (version_of l) → v ≡ version_of l → parameters_at v ≤ l
-alarms_reach l v k e = let r = parameters_room l v (parameters_at v) k e refl in omega (arith, r.1)
+alarms_reach l v k e = let r = parameters_room l v k e in omega arith
 
 -- ---- what a version stores behind the numbers that every version has
 abbrev pub later : ℕ → List Item
@@ -162,12 +165,8 @@ module _ (l : ℕ) where
 
 pub ruleset versioning = (version_now, version_before, version_none)
 
-module _ (v : ℕ) where
-  pub begins_before : v ≡ 1 → parameters_at 1 ≡ parameters_at v
-  begins_before e = ap parameters_at (sym e)
-
-  pub begins_now : (v ≡ 1 → ⊥) → parameters_at current ≡ parameters_at v
-  begins_now n = simp (ne_eqb _ _ n)
-
-  pub alarms-room : (v ≡ 1 → ⊥) → (t : Slot) → t ≡ get_or (scalar_slots current) 8 no_slot → (l : ℕ) → parameters_at v ≤ l → (t.at + t.width ≤ l) × (t.width ≤ 4)
-  alarms-room n t q l h = let b = begins_now n in let e = scalar_ends t 8 q (omega arith) in (omega arith, scalar_short t 8 q (omega arith))
+pub alarms_room : (v : Version) → v ≡ version.WithAlarms → (t : Slot) → t ≡ get_or (scalar_slots current) 8 no_slot → (l : ℕ) → parameters_at (version_number v) ≤ l → (t.at + t.width ≤ l) × (t.width ≤ 4)
+alarms_room v z t q l h =
+    let b : parameters_at (version_number v) ≡ parameters_at current = simp z in
+    let e = scalar_ends t 8 q (omega arith) in
+    (omega arith, scalar_short t 8 q (omega arith))

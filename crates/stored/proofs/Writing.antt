@@ -16,11 +16,12 @@ use Rattle.state.specs.Parameter.{parameter_count}
 use Rattle.state.specs.Field.{phase_number}
 use Rattle.state.specs.Valid.{valid}
 use Rattle.stored.specs.declared.Slot.{Slot}
-use Rattle.stored.specs.Layout.{Item, alone, together, bit_mapped, parameter_items, current, scalars_of, items, header_width, item_width, widths, total_width, parameters_at, item_slot, slots_from, scalar_slots, no_slot, alarms_stored, item_number, numbers_of, bits, flag_fields}
+use Rattle.stored.specs.declared.ScalarField.{ScalarField}
+use Rattle.stored.specs.Layout.{Item, alone, together, bit_mapped, parameter_items, current, scalars_of, scalar_place, items, header_width, item_width, widths, total_width, parameters_at, item_slot, slots_from, scalar_slots, no_slot, alarms_stored, item_number, numbers_of, bits, flag_fields}
 use Rattle.stored.specs.Form.{K, done, big_endian, pack, packed, stored, stored_length, header_bytes, stored_form, write_of}
 use Rattle.stored.proofs.Bytes.{big_length, sets-append, sets_next, sets_over, part_filled}
 use Rattle.stored.proofs.Packing.{pack-length, pack-append}
-use Rattle.stored.proofs.Slots.{pair, value_slot, level_slot, parameters_width, stored_180, Others, last-place}
+use Rattle.stored.proofs.Slots.{pair, value_slot, level_slot, parameters_width, stored_180, scalar_list, scalar_at}
 use Rattle.stored.proofs.Versions.{length_of}
 use Rattle.stored.proofs.Alarms.{stored-sum}
 
@@ -80,11 +81,12 @@ pub scalars_none : (r : Record) (o : List ℕ) → Scalars r 0 o o
 unfolding pack
 scalars_none r o = refl
 
-pub scalars_more : (r : Record) (k n : ℕ) (s : Slot) (o y z : List ℕ) → k < length (scalars_of current) → n ≡ get_or (numbers_of (scalars_of current) r) k 0 → s ≡ get_or (scalar_slots current) k no_slot → Scalars r k o y
-    → z ≡ stored s n y → Scalars r (k + 1) o z
-scalars_more r k n s o y z h e i q p =
-    p ∙ (ap (λ (m : ℕ). stored s m y) e ∙
-    (ap (λ (t : Slot). stored t (get_or (numbers_of (scalars_of current) r) k 0) y) i ∙
+pub scalars_more : (r : Record) (k n : ℕ) (f : ScalarField) (s : Slot) (o y z : List ℕ) → k < length scalar_list → n ≡ get_or (numbers_of (scalars_of current) r) (scalar_place (get_or scalar_list k f)) 0
+    → s ≡ get_or (scalar_slots current) (scalar_place (get_or scalar_list k f)) no_slot → Scalars r k o y → z ≡ stored s n y → Scalars r (k + 1) o z
+scalars_more r k n f s o y z h e i q p =
+    let at = scalar_at k f h in
+    p ∙ (ap (λ (m : ℕ). stored s m y) (e ∙ ap (λ (j : ℕ). get_or (numbers_of (scalars_of current) r) j 0) at) ∙
+    (ap (λ (t : Slot). stored t (get_or (numbers_of (scalars_of current) r) k 0) y) (i ∙ ap (λ (j : ℕ). get_or (scalar_slots current) j no_slot) at) ∙
     (store_next header_width (scalars_of current) (numbers_of (scalars_of current) r) k o y h (numbers-length (scalars_of current) r) q ∙
     ap (λ (j : ℕ). sets o header_width (pack (widths (take j (scalars_of current))) (take j (numbers_of (scalars_of current) r)))) (sym (add-one k)))))
 
@@ -121,10 +123,6 @@ parameters_more r i n m s t o y x z h q en es ex em et ez =
     z₁ ∙ sets_next o x (parameters_at current) (parameters_at current + 5 * i + 4) (f ++ big_endian 4 v) (big_endian 1 l) x₂ (omega arith) in
     z₂ ∙ (ap (sets o (parameters_at current)) (append_assoc f (big_endian 4 v) (big_endian 1 l) ∙ sym (packed-append (parameter_items i) (pair i) r)) ∙
     ap (λ (j : ℕ). sets o (parameters_at current) (packed (parameter_items j) r)) (sym (add-one i)))
-
-pub parameters_all : (r : Record) (i : ℕ) (o z : List ℕ) → i ≤ parameter_count → parameter_count ≤ i → Parameters r i o z
-    → z ≡ sets o (parameters_at current) (packed (parameter_items parameter_count) r)
-parameters_all r i o z l h e = let q : i ≡ parameter_count = omega arith in e ∙ ap (λ (j : ℕ). sets o (parameters_at current) (packed (parameter_items j) r)) q
 
 -- ---- the header
 module _ (o ys : List ℕ) (room : 3 ≤ length o) (filled : ys ≡ big_endian (length (take 2 (drop 1 (set o 0 current)))) (length_of current)) where
@@ -174,14 +172,10 @@ abbrev pub scalar_numbers : Record → List ℕ
 scalar_numbers r =
     r.address ∷ r.access ∷ phase_number r.phase ∷ bits r flag_fields ∷ r.recipe ∷ r.preset ∷ r.raw ∷ r.number ∷ alarms_stored r.alarms ∷ []
 
-pub number_here : (j : ℕ) (r : Record) (k n : ℕ) → k ≡ j → n ≡ get_or (scalar_numbers r) j 0 → n ≡ get_or (numbers_of (scalars_of current) r) k 0
+pub number_here : (f : ScalarField) (r : Record) (n : ℕ) → n ≡ get_or (scalar_numbers r) (scalar_place f) 0 → n ≡ get_or (numbers_of (scalars_of current) r) (scalar_place f) 0
 unfolding numbers_of
-number_here j r k n e q = q ∙ ap (λ (i : ℕ). get_or (scalar_numbers r) i 0) (sym e)
+number_here f r n q = q
 
--- by one step more
-pub number_there : (j : ℕ) (r : Record) (k n m : ℕ) → k ≡ j → n ≡ m → m ≡ get_or (scalar_numbers r) j 0 → n ≡ get_or (numbers_of (scalars_of current) r) k 0
-number_there j r k n m e p q = number_here j r k n e (p ∙ q)
-
-pub number-last : (r : Record) (k : ℕ) → Others k → k < length (scalars_of current)
-    → r.alarms / 8 % 65536 * 256 + r.alarms % 8 * 16 ≡ get_or (numbers_of (scalars_of current) r) k 0
-number-last r k o h = number_here 8 r k _ (last-place k o h) (sym (stored-sum r.alarms))
+pub number_alarms : (r : Record) → r.alarms / 8 % 65536 * 256 + r.alarms % 8 * 16 ≡ get_or (numbers_of (scalars_of current) r) 8 0
+unfolding numbers_of
+number_alarms r = sym (stored-sum r.alarms)

@@ -1,5 +1,5 @@
 -- Document 01, "Stored record", and 02, L1: the bytes of a record, and what writing and reading answer.
-use Rattle.std.specs.Prelude.{ℕ, zero, suc, ◌+◌, ◌*◌, ◌/◌, ◌%◌, Bool, true, false, ◌&&◌, List, [], ◌∷◌, ◌++◌, eqb, leb, length, get_or, take, drop}
+use Rattle.std.specs.Prelude.{ℕ, zero, suc, ◌+◌, ◌*◌, ◌/◌, ◌%◌, Bool, true, false, ◌&&◌, List, [], ◌∷◌, ◌++◌, eqb, leb, length, get_or, take, drop, Option, None, Some, Result, Ok, Err}
 use Rattle.std.specs.Int.Bits.{bit_and}
 use Rattle.std.proofs.lemmas.List.Edits.{sets}
 use Rattle.base.specs.Test.{unless, pick, between, member}
@@ -8,18 +8,12 @@ use Rattle.state.specs.declared.Record.{Record}
 use Rattle.state.specs.Field.{value, level, field_range, record_from}
 use Rattle.state.specs.Valid.{valid}
 use Rattle.stored.specs.declared.Slot.{Slot}
+use Rattle.stored.specs.declared.Version.{Version}
+use Rattle.stored.specs.declared.Version.TheVariants as version
 use Rattle.stored.specs.declared.Refusal.{Refusal}
 use Rattle.stored.specs.declared.Refusal.TheVariants as refusal
-use Rattle.stored.specs.declared.Written.{Written}
-use Rattle.stored.specs.declared.Written.TheVariants as written
-use Rattle.stored.specs.declared.Header.{Header}
-use Rattle.stored.specs.declared.Header.TheVariants as header
-use Rattle.stored.specs.declared.Answer.{Answer}
-use Rattle.stored.specs.declared.Answer.TheVariants as answer
-use Rattle.stored.specs.declared.Number.{Number}
-use Rattle.stored.specs.declared.Number.TheVariants as number
-use Rattle.stored.specs.declared.Parameter.{Parameter}
-use Rattle.stored.specs.declared.Parameter.TheVariants as parameter
+use Rattle.stored.specs.declared.WriteRefusal.{WriteRefusal}
+use Rattle.stored.specs.declared.WriteRefusal.TheVariants as written
 use Rattle.stored.specs.Layout.{Item, alone, bit_mapped, versions, current, items, widths, total_width, header_width, parameters_at, item_slot, slots_from, unused_bits, fits, numbers_of, put_all}
 
 -- ---- the code's answers as document 01 numbers them: K1 to K6, or done
@@ -33,18 +27,14 @@ refusal_number refusal.Version = 2
 refusal_number refusal.LengthField = 3
 refusal_number refusal.Field = 4
 
-abbrev pub header_as : Header → Outcome
-header_as header.Good = done
-header_as (header.Refused k) = K (refusal_number k)
+abbrev pub header_as : Result (Unit {0}) Refusal → Outcome
+header_as (Ok u) = done
+header_as (Err k) = K (refusal_number k)
 
-abbrev pub answer_as : Answer → Outcome
-answer_as answer.Whole = done
-answer_as (answer.Refused k) = K (refusal_number k)
-
-abbrev pub written_as : Written → Outcome
-written_as written.InvalidRecord = K 5
-written_as written.ShortBuffer = K 6
-written_as written.Whole = done
+abbrev pub written_as : Result (Unit {0}) WriteRefusal → Outcome
+written_as (Err written.InvalidRecord) = K 5
+written_as (Err written.ShortBuffer) = K 6
+written_as (Ok u) = done
 
 -- ---- numbers as bytes, "high first"
 unfoldable pub big_endian : ℕ → ℕ → List ℕ
@@ -86,7 +76,7 @@ abbrev pub stored : Slot → ℕ → List ℕ → List ℕ
 stored s n o = sets o s.at (big_endian s.width n)
 
 abbrev pub in_slot : Slot → ℕ → Bool
-in_slot s n = between s.low s.high n
+in_slot s n = between s.range.low s.range.high n
 
 unfoldable pub all_fit : List Item → List ℕ → Bool
 all_fit [] ns = true
@@ -106,6 +96,15 @@ version_in (v ∷ vs) l = pick (eqb l (stored_length v)) v (version_in vs l)
 
 abbrev pub version_of : ℕ → ℕ
 version_of l = version_in versions l
+
+-- and as the code gives it
+abbrev pub version_number : Version → ℕ
+version_number version.WithoutAlarms = 1
+version_number version.WithAlarms = 2
+
+abbrev pub version_as : Option Version → ℕ
+version_as None = 0
+version_as (Some v) = version_number v
 
 abbrev pub header_bytes : List ℕ
 header_bytes = current ∷ big_endian 2 (stored_length current)
@@ -132,6 +131,11 @@ header_of bs =
 unfoldable pub low_record : Record
 low_record = record_from (λ f. (field_range f).low)
 
+-- "beside the number it then gives" the low record
+abbrev pub reading_as : Result Record Refusal → Outcome × Record
+reading_as (Ok r) = (done, r)
+reading_as (Err k) = (K (refusal_number k), low_record)
+
 -- what the numbers in the slots of some items make of a record: each goes into its field, if all fit
 unfoldable pub taken_from : ℕ → List Item → List ℕ → Record → Outcome × Record
 taken_from at xs bs r =
@@ -151,24 +155,24 @@ unfoldable pub read_of : List ℕ → Outcome × Record
 read_of bs = after_header (header_of bs) bs
 
 -- the number in a slot, if it lies in its range
-unfoldable pub number_read : Slot → List ℕ → Number
-number_read s bs = unless (in_slot s (number_at bs s)) number.Outside (number.Inside (number_at bs s))
+unfoldable pub number_read : Slot → List ℕ → Option ℕ
+number_read s bs = unless (in_slot s (number_at bs s)) None (Some (number_at bs s))
 
 -- the number of the alarms, if no unused bit is set in it
-unfoldable pub alarms_read : Number → Number
-alarms_read number.Outside = number.Outside
-alarms_read (number.Inside n) = unless (eqb (bit_and n unused_bits) 0) number.Outside (number.Inside n)
+unfoldable pub alarms_read : Option ℕ → Option ℕ
+alarms_read None = None
+alarms_read (Some n) = unless (eqb (bit_and n unused_bits) 0) None (Some n)
 
 -- in stored bytes of a version; 0 in one that does not store it
-unfoldable pub alarms_at : ℕ → List ℕ → Number
-alarms_at version bs = pick (eqb version 1) (number.Inside 0) (alarms_read (number_read (item_slot (parameters_at 1) bit_mapped) bs))
+unfoldable pub alarms_at : ℕ → List ℕ → Option ℕ
+alarms_at version bs = pick (eqb version 1) (Some 0) (alarms_read (number_read (item_slot (parameters_at 1) bit_mapped) bs))
 
 -- the value and the level of the parameter at place i, if both do, where the parameters begin at `at`
-abbrev pub pair_read : Number → Number → Parameter
-pair_read number.Outside l = parameter.Outside
-pair_read (number.Inside v) number.Outside = parameter.Outside
-pair_read (number.Inside v) (number.Inside l) = parameter.Inside v l
+abbrev pub pair_read : Option ℕ → Option ℕ → Option (ℕ × ℕ)
+pair_read None l = None
+pair_read (Some v) None = None
+pair_read (Some v) (Some l) = Some (v, l)
 
-unfoldable pub parameter_read : ℕ → ℕ → List ℕ → Parameter
+unfoldable pub parameter_read : ℕ → ℕ → List ℕ → Option (ℕ × ℕ)
 parameter_read at i bs =
     pair_read (number_read (item_slot (at + 5 * i) (alone 4 (value i))) bs) (number_read (item_slot (at + 5 * i + 4) (alone 1 (level i))) bs)

@@ -10,6 +10,8 @@ use Rattle.state.specs.Alarm.{all_alarms, alarm_values}
 use Rattle.state.specs.Field.{Field, address, access, phase, keypad, flow, changed, reset, powerfail, recipe, preset, raw, number, alarms, value, level, get, put, field_range}
 use Rattle.state.specs.Valid.{within}
 use Rattle.stored.specs.declared.Slot.{Slot}
+use Rattle.stored.specs.declared.ScalarField.{ScalarField}
+use Rattle.stored.specs.declared.ScalarField.TheVariants as scalar
 
 -- one stored number: a field alone in so many bytes; several flags together in one byte, the first in the lowest bit; or the alarms
 pub data Item : Type 0 where
@@ -42,6 +44,18 @@ current = 2
 abbrev pub scalars_of : ℕ → List Item
 scalars_of version = pick (eqb version 1) scalar_items (scalar_items ++ (bit_mapped ∷ []))
 
+-- their places, as the code names them
+abbrev pub scalar_place : ScalarField → ℕ
+scalar_place scalar.Address = 0
+scalar_place scalar.Access = 1
+scalar_place scalar.Phase = 2
+scalar_place scalar.Flags = 3
+scalar_place scalar.Recipe = 4
+scalar_place scalar.Preset = 5
+scalar_place scalar.Raw = 6
+scalar_place scalar.Number = 7
+scalar_place scalar.Alarms = 8
+
 abbrev pub items : ℕ → List Item
 items version = pick (member version versions) (scalars_of version ++ parameter_items parameter_count) []
 
@@ -65,7 +79,7 @@ abbrev pub total_width : List Item → ℕ
 total_width xs = total (widths xs)
 
 abbrev pub slot_of : ℕ → ℕ → Range → Slot
-slot_of a w g = record { at = a; width = w; low = g.low; high = g.high }
+slot_of a w g = record { at = a; width = w; range = g }
 
 -- the slot of an item: its place, its width, and the range of the number in it
 abbrev pub item_slot : ℕ → Item → Slot

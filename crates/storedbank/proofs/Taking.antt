@@ -5,88 +5,76 @@ use mathlib.Core.Path.{◌≡◌, refl, sym, ap, subst, ◌∙◌}
 use mathlib.Core.List.{List, [], ◌∷◌, ◌++◌, append_assoc}
 use native.Mathlib.Omega.{arith}
 use lib.Dec.{eqb, leb}
-use lib.ListN.{length, get_or, set, take, drop, replicate, length-append}
-use lib.Seq.{drop-drop, set_at, take_all}
+use lib.ListN.{length, get_or, set, take, drop, replicate, length-append, length-drop}
+use lib.Seq.{length-take-le, drop-cons, drop-drop, set_at, take_all}
 use borrow.Author.Tests.{le-leb, leb-true, eq-eqb, ne_eqb, eqb-true, not-true, not-false}
+use Rattle.std.specs.Prelude.{Option, Some, None}
 use Rattle.base.specs.Test.{unless}
 use Rattle.base.proofs.Tests.{by_test, never, and_yes, and_left, and_right}
 use Rattle.stored.specs.Form.{number_from, number_of, unpack}
-use Rattle.stored.proofs.Bytes.{number_next}
+use Rattle.std.specs.Int.{w16, w32, from_be_bytes}
+use Rattle.stored.proofs.Packing.{unpack_front}
 use Rattle.bank.specs.declared.Batch.{Batch}
 use Rattle.bank.specs.declared.Bank.{Bank}
-use Rattle.bank.specs.Bank.{most, no_batch, batch_valid, all_valid, bank_of, empty_bank}
-use Rattle.storedbank.specs.declared.Header.{Header}
-use Rattle.storedbank.specs.declared.Header.TheVariants as header
-use Rattle.storedbank.specs.declared.Found.{Found}
-use Rattle.storedbank.specs.declared.Found.TheVariants as found
-use Rattle.storedbank.specs.StoredBank.{Outcome, K, done, batch_width, header_width, bank_length, batch_read, batches_read, count_in, held_in, with_room, bank_with, length_right, well_formed, refusal, read_of, room_length, open_of}
+use Rattle.bank.specs.Bank.{most, no_batch, batch_valid, all_valid, bank_of}
+use Rattle.storedbank.specs.StoredBank.{Outcome, done, batch_widths, batch_width, header_width, bank_length, batch_from, batch_read, batches_read, count_in, held_in, with_room, bank_with, length_right, well_formed, refusal, read_of, room_length, open_of}
 use Rattle.storedbank.specs.Steps.{headed, header_of, batch_found, holding, body_of}
 
 and_grouped : (a b c : Bool) → (a && (b && c)) ≡ ((a && b) && c)
 and_grouped true b c = refl
 and_grouped false b c = refl
 
--- `refused`
-pub refused_so : (k : Bank) → k ≡ empty_bank → ◌≡◌ {A = Outcome × Bank} (K 7, k) refusal
-refused_so k e = ap (λ (x : Bank). (K 7, x)) e
+-- ---- the numbers of some bytes
+-- the n bytes from place i on, one by one
+abbrev pub bytes_at : ℕ → ℕ → List ℕ → List ℕ
+bytes_at zero i s = []
+bytes_at (suc n) i s = get_or s i 0 ∷ bytes_at n (suc i) s
 
--- ---- the numbers of one, two, three and four bytes
-module _ (s : List ℕ) (i : ℕ) where
-  one : i < length s → number_of (take 1 (drop i s)) ≡ get_or s i 0
-  unfolding number_from
-  one h = number_next 0 0 i s h ∙ omega arith
+pub taken-bytes : (n i : ℕ) (s : List ℕ) → i + n ≤ length s → take n (drop i s) ≡ bytes_at n i s
+taken-bytes zero i s h = refl
+taken-bytes (suc n) i s h =
+    ap (take (suc n)) (drop-cons s i 0 (omega arith)) ∙ ap (λ (l : List ℕ). get_or s i 0 ∷ l) (taken-bytes n (suc i) s (omega arith))
 
-  two : i + 2 ≤ length s → number_of (take 2 (drop i s)) ≡ get_or s i 0 * 256 + get_or s (i + 1) 0
-  unfolding number_from
-  two h = number_next 0 1 i s (omega arith) ∙ (number_next _ 0 (i + 1) s (omega arith) ∙ omega arith)
-
-  pub two_read : (a b : ℕ) → i + 2 ≤ length s → a ≡ get_or s i 0 → b ≡ get_or s (i + 1) 0 → a * 256 + b ≡ number_of (take 2 (drop i s))
-  two_read a b h e f = sym (two h ∙ omega arith)
-
-three : (s : List ℕ) (i : ℕ) → i + 3 ≤ length s → number_of (take 3 (drop i s)) ≡ get_or s i 0 * 65536 + number_of (take 2 (drop (i + 1) s))
+pub two : (s : List ℕ) → header_width ≤ length s → number_of (take 2 (drop 1 s)) ≡ get_or s 1 0 * 256 + get_or s 2 0
 unfolding number_from
-three s i h =
-    number_next 0 2 i s (omega arith) ∙
-    (number_next _ 1 (i + 1) s (omega arith) ∙ (number_next _ 0 (i + 1 + 1) s (omega arith) ∙ omega (arith, two s (i + 1) (omega arith))))
-
-four : (s : List ℕ) (i : ℕ) → i + 4 ≤ length s → number_of (take 4 (drop i s)) ≡ number_of (take 2 (drop i s)) * 65536 + number_of (take 2 (drop (i + 2) s))
-unfolding number_from
-four s i h =
-    let j : i + 1 + 1 ≡ i + 2 = omega arith in
-    let e : number_of (take 2 (drop (i + 1 + 1) s)) ≡ number_of (take 2 (drop (i + 2) s)) = ap (λ (k : ℕ). number_of (take 2 (drop k s))) j in
-    number_next 0 3 i s (omega arith) ∙
-    (number_next _ 2 (i + 1) s (omega arith) ∙
-    (number_next _ 1 (i + 1 + 1) s (omega arith) ∙
-    (number_next _ 0 (i + 1 + 1 + 1) s (omega arith) ∙ omega (arith, two s i (omega arith), two s (i + 1 + 1) (omega arith)))))
+two s h = ap number_of (taken-bytes 2 1 s h) ∙ omega arith
 
 -- ---- one batch
 module _ (s : List ℕ) (at : ℕ) where
-  -- the bytes from the place on, without the first j and then without k more
-  further : (j k : ℕ) → drop k (drop (at + j) s) ≡ drop (at + (j + k)) s
-  further j k = let i : at + j + k ≡ at + (j + k) = omega arith in drop-drop k (at + j) s ∙ ap (λ (n : ℕ). drop n s) i
+  -- its bytes
+  abbrev pub here : List ℕ
+  here = take (at + batch_width - at) (drop at s)
 
-  pub batch_read_lem : (n f a b w p : ℕ) → at + batch_width ≤ length s → n ≡ number_of (take 2 (drop at s)) → f ≡ number_of (take 2 (drop (at + 3) s))
-      → a ≡ number_of (take 2 (drop (at + 5) s)) → b ≡ number_of (take 2 (drop (at + 7) s)) → w ≡ get_or s (at + 9) 0
-      → p ≡ number_of (take 2 (drop (at + 10) s))
-      → record { number = n; recipe = get_or s (at + 2) 0; factor = f; raw = a * 65536 + b; preset = w * 65536 + p } ≡ batch_read (drop at s)
-  unfolding unpack
-  batch_read_lem n f a b w p h en ef ea eb ew ep =
-      let i₇ : at + 5 + 2 ≡ at + 7 = omega arith in
-      let i₁₀ : at + 9 + 1 ≡ at + 10 = omega arith in
-      let v : a * 65536 + b ≡ number_of (take 4 (drop (at + 5) s)) =
-      sym (four s (at + 5) (omega arith) ∙ (ap (λ (i : ℕ). number_of (take 2 (drop (at + 5) s)) * 65536 + number_of (take 2 (drop i s))) i₇ ∙ omega arith)) in
-      let q : w * 65536 + p ≡ number_of (take 3 (drop (at + 9) s)) =
-      sym (three s (at + 9) (omega arith) ∙ (ap (λ (i : ℕ). get_or s (at + 9) 0 * 65536 + number_of (take 2 (drop i s))) i₁₀ ∙ omega arith)) in
-      simp (drop-drop 2 at s, further 2 1, further 3 2, further 5 4, en, one s (at + 2) (omega arith), ef, v, q)
+  here_is : here ≡ take batch_width (drop at s)
+  here_is = let i : at + batch_width - at ≡ batch_width = omega arith in ap (λ (n : ℕ). take n (drop at s)) i
+
+  pub batch_read_lem : (b : Batch) → at + batch_width ≤ length s → b.number ≡ from_be_bytes w16 (get_or here 0 0 ∷ get_or here 1 0 ∷ []) → b.recipe ≡ get_or here 2 0
+      → b.factor ≡ from_be_bytes w32 (0 ∷ 0 ∷ get_or here 3 0 ∷ get_or here 4 0 ∷ [])
+      → b.raw ≡ from_be_bytes w32 (get_or here 5 0 ∷ get_or here 6 0 ∷ get_or here 7 0 ∷ get_or here 8 0 ∷ [])
+      → b.preset ≡ from_be_bytes w32 (0 ∷ get_or here 9 0 ∷ get_or here 10 0 ∷ get_or here 11 0 ∷ [])
+      → b ≡ batch_read (drop at s)
+  unfolding unpack number_from
+  batch_read_lem b h en er ef ew ep =
+      let l : length here ≡ batch_width = ap length here_is ∙ length-take-le batch_width (drop at s) (simp length-drop (omega arith)) in
+      let e : batch_read here ≡ batch_read (bytes_at 12 0 here) = ap batch_read (sym (take_all 12 here (omega arith)) ∙ taken-bytes 12 0 here (omega arith)) in
+      let f : batch_read (drop at s) ≡ batch_read here = ap batch_from (sym (unpack_front batch_widths (drop at s))) ∙ ap batch_read (sym here_is) in
+      let read : Batch = batch_read (bytes_at 12 0 here) in
+      let n : b.number ≡ read.number = omega arith in
+      let r : b.recipe ≡ read.recipe = omega arith in
+      let c : b.factor ≡ read.factor = omega arith in
+      let v : b.raw ≡ read.raw = omega arith in
+      let p : b.preset ≡ read.preset = omega arith in
+      let same : b ≡ read = λ i. record { number = n i; recipe = r i; factor = c i; raw = v i; preset = p i } in
+      same ∙ sym (f ∙ e)
 
   module _ (b : Batch) (t : Bool) (e : b ≡ batch_read (drop at s)) (v : t ≡ batch_valid b) where
-    pub batch_outside : not t ≡ true → found.Outside ≡ batch_found at s
+    pub batch_outside : not t ≡ true → None ≡ batch_found at s
     unfolding batch_found
     batch_outside n = simp (ap batch_valid (sym e) ∙ (sym v ∙ not-true t n))
 
-    pub batch_inside : not t ≡ false → found.Inside b ≡ batch_found at s
+    pub batch_inside : not t ≡ false → Some b ≡ batch_found at s
     unfolding batch_found
-    batch_inside n = simp (ap batch_valid (sym e) ∙ (sym v ∙ not-false t n)) (ap found.Inside e)
+    batch_inside n = simp (ap batch_valid (sym e) ∙ (sym v ∙ not-false t n)) (ap Some e)
 
 -- ---- the header
 pub record Headed (bs : List ℕ) : Type 0 where
@@ -119,41 +107,19 @@ module _ (bs : List ℕ) where
   pub headed-length : Headed bs → length bs ≡ bank_length (count_in bs)
   headed-length h = omega (arith, h.low, h.whole)
 
-  not-headed : (Headed bs → ⊥) → header.Refused ≡ header_of bs
+  not-headed : (Headed bs → ⊥) → None ≡ header_of bs
   unfolding header_of
   not-headed n = by_test (headed bs) (λ t. absurd (n (headed_tell t))) (λ f. simp f)
 
-  pub header_short : length bs < header_width → header.Refused ≡ header_of bs
-  header_short h = not-headed (λ t. omega (arith, t.low))
-
-  pub header_version : (get_or bs 0 0 ≡ 1 → ⊥) → header.Refused ≡ header_of bs
-  header_version h = not-headed (λ t. h t.version)
-
-  pub header_field : (n : ℕ) → n ≡ number_of (take 2 (drop 1 bs)) → (n ≡ length bs → ⊥) → header.Refused ≡ header_of bs
-  header_field n e h = not-headed (λ t. h (e ∙ t.field))
-
-  pub header_rest : ((length bs - header_width) % batch_width ≡ 0 → ⊥) → header.Refused ≡ header_of bs
-  header_rest h = not-headed (λ t. h t.whole)
-
-  pub header_many : most < count_in bs → header.Refused ≡ header_of bs
-  header_many h = not-headed (λ t. omega (arith, t.few))
-
-  pub header_good : {n : ℕ} → n ≡ number_of (take 2 (drop 1 bs)) → n ≡ length bs → header_width ≤ length bs → get_or bs 0 0 ≡ 1 → (length bs - header_width) % batch_width ≡ 0 → count_in bs ≤ most
-      → header.Batches (count_in bs) ≡ header_of bs
-  unfolding header_of
-  header_good e f l v w m = simp (headed_made (record { version = v; low = l; field = sym e ∙ f; whole = w; few = m }))
-
-pub ruleset heading = (header_short, header_version, header_field, header_rest, header_many)
-
 -- what the header's answer tells
-abbrev Told : List ℕ → Header → Type 0
-Told bs (header.Batches n) = Headed bs × (n ≡ count_in bs)
-Told bs header.Refused = headed bs ≡ false
+abbrev Told : List ℕ → Option ℕ → Type 0
+Told bs (Some n) = Headed bs × (n ≡ count_in bs)
+Told bs None = headed bs ≡ false
 
 header_told : (bs : List ℕ) → Told bs (header_of bs)
 unfolding header_of
 header_told bs =
-    let P : Bool → Type 0 = λ b. Told bs (unless b header.Refused (header.Batches (count_in bs))) in
+    let P : Bool → Type 0 = λ b. Told bs (unless b None (Some (count_in bs))) in
     by_test (headed bs) (λ t. subst P (sym t) (headed_tell bs t, refl)) (λ f. subst P (sym f) f)
 
 -- ---- batches one behind the other
@@ -209,32 +175,32 @@ module _ (s : List ℕ) where
     unfolding batches_read
     held_next = batches_more i 1 (drop header_width s) ∙ ap (λ (b : Batch). held i ++ (b ∷ [])) (sym next_is)
 
-    abbrev there : Found
+    abbrev there : Option Batch
     there = batch_found (header_width + batch_width * i) s
 
-    inside_tells : (b : Batch) → there ≡ found.Inside b → (b ≡ batch_read (drop (header_width + batch_width * i) s)) × (batch_valid b ≡ true)
+    inside_tells : (b : Batch) → there ≡ Some b → (b ≡ batch_read (drop (header_width + batch_width * i) s)) × (batch_valid b ≡ true)
     unfolding batch_found
     inside_tells b e = go (batch_valid (batch_read (drop (header_width + batch_width * i) s))) refl e
       where
-        inner : Found → Batch
-        inner (found.Inside x) = x
-        inner found.Outside = no_batch
+        inner : Option Batch → Batch
+        inner (Some x) = x
+        inner None = no_batch
 
         go : (t : Bool) → batch_valid (batch_read (drop (header_width + batch_width * i) s)) ≡ t
-            → unless t found.Outside (found.Inside (batch_read (drop (header_width + batch_width * i) s))) ≡ found.Inside b
+            → unless t None (Some (batch_read (drop (header_width + batch_width * i) s))) ≡ Some b
             → (b ≡ batch_read (drop (header_width + batch_width * i) s)) × (batch_valid b ≡ true)
         go true v f = let q : batch_read (drop (header_width + batch_width * i) s) ≡ b = ap inner f in (sym q, ap batch_valid (sym q) ∙ v)
         go false v f = absurd (never cc)
 
-    outside_tells : there ≡ found.Outside → batch_valid (batch_read (drop (header_width + batch_width * i) s)) ≡ false
+    outside_tells : there ≡ None → batch_valid (batch_read (drop (header_width + batch_width * i) s)) ≡ false
     unfolding batch_found
     outside_tells e = go (batch_valid (batch_read (drop (header_width + batch_width * i) s))) e
       where
-        go : (t : Bool) → unless t found.Outside (found.Inside (batch_read (drop (header_width + batch_width * i) s))) ≡ found.Outside → t ≡ false
+        go : (t : Bool) → unless t None (Some (batch_read (drop (header_width + batch_width * i) s))) ≡ None → t ≡ false
         go true f = absurd (never cc)
         go false f = refl
 
-    pub taken_more : (n : ℕ) (bs : List Batch) (x : Found) (b : Batch) → n ≤ most → i < n → x ≡ there → x ≡ found.Inside b → Taken i bs → Taken (i + 1) (set bs i b)
+    pub taken_more : (n : ℕ) (bs : List Batch) (x : Option Batch) (b : Batch) → n ≤ most → i < n → x ≡ there → x ≡ Some b → Taken i bs → Taken (i + 1) (set bs i b)
     unfolding all_valid
     taken_more n bs x b l h e f t =
         let g = inside_tells b (sym e ∙ f) in
@@ -243,7 +209,7 @@ module _ (s : List ℕ) where
           ap all_valid p ∙ (valid-append (held i) (b ∷ []) ∙ and_yes _ _ t.1 (and_yes _ _ g.1 refl)),
         )
 
-    pub taken_outside : (n : ℕ) (x : Found) (r : Outcome × Bank) → i < n → x ≡ there → x ≡ found.Outside → r ≡ refusal → r ≡ body_of n s
+    pub taken_outside : (n : ℕ) (x : Option Batch) (r : Outcome × Bank) → i < n → x ≡ there → x ≡ None → r ≡ refusal → r ≡ body_of n s
     unfolding body_of holding batches_read all_valid
     taken_outside n x r h e f w =
         let m : n ≡ i + suc (n - (i + 1)) = omega arith in
@@ -275,18 +241,18 @@ module _ (s : List ℕ) where
   pub formed_parts : well_formed s ≡ (headed s && all_valid (held_in s))
   formed_parts = and_grouped (eqb (get_or s 0 0) 1) (length_right s) (all_valid (held_in s))
 
-  module _ (h : Header) (e : h ≡ header_of s) where
+  module _ (h : Option ℕ) (e : h ≡ header_of s) where
     told : Told s h
     told = subst (Told s) (sym e) (header_told s)
 
-    pub read_refused : (x : Outcome × Bank) → h ≡ header.Refused → x ≡ refusal → x ≡ read_of s
+    pub read_refused : (x : Outcome × Bank) → h ≡ None → x ≡ refusal → x ≡ read_of s
     unfolding read_of
     read_refused x f w =
         let n : headed s ≡ false = subst (Told s) f told in
         let no : well_formed s ≡ false = formed_parts ∙ ap (λ (b : Bool). b && all_valid (held_in s)) n in
         w ∙ sym (ap (λ (b : Bool). unless b refusal (done, bank_with (held_in s))) no)
 
-    module _ (n : ℕ) (f : h ≡ header.Batches n) where
+    module _ (n : ℕ) (f : h ≡ Some n) where
       known : Headed s × (n ≡ count_in s)
       known = subst (Told s) f told
 
@@ -305,7 +271,7 @@ module _ (s : List ℕ) where
 
 -- a header that is not right
 pub headed-not : (s : List ℕ) → (Headed s → ⊥) → refusal ≡ read_of s
-headed-not s n = read_refused s header.Refused (not-headed s n) refusal refl refl
+headed-not s n = read_refused s None (not-headed s n) refusal refl refl
 
 -- ---- `open`
 module _ (s : List ℕ) (x : Outcome × Bank) where
@@ -314,7 +280,7 @@ module _ (s : List ℕ) (x : Outcome × Bank) where
   open_other n w = w ∙ sym (simp (ne_eqb (length s) room_length n))
 
   module _ (l : length s ≡ room_length) (n : ℕ) (e : n ≡ number_of (take 2 (drop 1 s))) where
-    front_is : open_of s ≡ read_of (take n s)
+    pub front_is : open_of s ≡ read_of (take n s)
     unfolding open_of
     front_is = simp (eq-eqb (length s) room_length l) (ap (λ (k : ℕ). read_of (take k s)) (sym e))
 
@@ -323,5 +289,9 @@ module _ (s : List ℕ) (x : Outcome × Bank) where
         let t : take n s ≡ s = take_all n s (omega arith) in
         w ∙ (headed-not s (λ g. omega (arith, e, g.field)) ∙ sym (front_is ∙ ap read_of t))
 
-    pub open_read_lem : n ≤ room_length → x ≡ read_of (take (n - 0) (drop 0 s)) → x ≡ open_of s
-    open_read_lem h w = let i : n - 0 ≡ n = omega arith in w ∙ (ap (λ (k : ℕ). read_of (take k s)) i ∙ sym front_is)
+    pub open_read_lem : n ≤ room_length → x ≡ read_of (take n s) → x ≡ open_of s
+    open_read_lem h w = w ∙ sym front_is
+
+pub ruleset reading = (few_read, read_room, read_refused, read_whole)
+
+pub ruleset opening = (open_other, open_long, open_read_lem)

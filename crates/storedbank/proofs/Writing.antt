@@ -1,17 +1,16 @@
 -- Batches stored one behind the other, and what the returns of writing give. Assumes nothing.
-use Prim.Native.Nat.{ℕ, ◌+◌, ◌*◌, ◌/◌, ◌%◌, ◌≤◌, ◌<◌}
+use Prim.Native.Nat.{ℕ, ◌+◌, ◌-◌, ◌*◌, ◌/◌, ◌%◌, ◌≤◌, ◌<◌}
 use mathlib.Core.Bool.{Bool, true, false, not}
 use mathlib.Core.Path.{◌≡◌, refl, sym, ap, ◌∙◌}
 use mathlib.Core.List.{List, [], ◌∷◌, ◌++◌, append_assoc, append-nil}
 use native.Mathlib.Numerals.{add-one}
 use native.Mathlib.Omega.{arith}
-use lib.ListN.{length, get_or, take, length-append}
-use lib.Seq.{length-take-le, take-suc}
+use lib.ListN.{length, get_or, take, drop, length-append}
+use lib.Seq.{length-take-le, take-suc, drop-drop}
 use borrow.Author.Tests.{le-leb, lt-leb, not-true, not-false}
+use Rattle.std.specs.Int.{w16, w32, to_be_bytes}
 use Rattle.base.specs.Lists.{over, over_at}
 use Rattle.base.proofs.Lists.{over_at-none, over_at_start, over_at-length, over_at-append}
-use Rattle.text.specs.Written.{written_at}
-use Rattle.text.proofs.Writing.{room-written}
 use Rattle.stored.specs.Form.{big_endian, pack}
 use Rattle.stored.proofs.Bytes.{big_length}
 use Rattle.stored.proofs.Packing.{pack-length}
@@ -21,26 +20,22 @@ use Rattle.bank.specs.Bank.{most, no_batch, batch_numbers, batches_in, valid}
 use Rattle.bank.proofs.Theorems.{Valid, valid_tell}
 use Rattle.storedbank.specs.StoredBank.{K, done, batch_widths, batch_width, header_width, bank_length, batch_bytes, all_bytes, header_bytes, bank_form, write_of}
 
--- ---- bytes put at a place with room for them
-put_at : (at n : ℕ) (xs ys o o₁ : List ℕ) → at + length xs ≤ length o → xs ≡ ys → (n, o₁) ≡ written_at at xs o → o₁ ≡ over_at at ys o
-put_at at n xs ys o o₁ h e w = (room-written at n xs o o₁ h w).1 ∙ ap (λ (x : List ℕ). over_at at x o) e
-
--- `put_header`
-pub header_put : (k n : ℕ) (o o₁ : List ℕ) → header_width ≤ length o → (n, o₁) ≡ written_at 0 (1 ∷ bank_length k / 256 % 256 ∷ bank_length k % 256 ∷ []) o
-    → o₁ ≡ over_at 0 (header_bytes k) o
-unfolding header_bytes big_endian
-header_put k n o o₁ h w = put_at 0 n _ _ o o₁ (omega arith) refl w
-
--- `put_batch`
-pub batch_put : (b : Batch) (at n : ℕ) (o o₁ : List ℕ) → at + batch_width ≤ length o → b.recipe < 256
-    → (n, o₁) ≡ written_at at
-    (b.number / 256 % 256 ∷ b.number % 256 ∷ b.recipe ∷ b.factor / 256 % 256 ∷ b.factor % 256
-    ∷ b.raw / 256 / 256 / 256 % 256 ∷ b.raw / 256 / 256 % 256 ∷ b.raw / 256 % 256 ∷ b.raw % 256
-    ∷ b.preset / 256 / 256 % 256 ∷ b.preset / 256 % 256 ∷ b.preset % 256 ∷ []) o
-    → o₁ ≡ over_at at (batch_bytes b) o
-unfolding pack big_endian
-batch_put b at n o o₁ h r w =
-    let e : b.recipe % 256 ≡ b.recipe = omega arith in put_at at n _ _ o o₁ (omega arith) (simp e) w
+-- ---- one batch
+pub batch_put : (b : Batch) (at : ℕ) (o ys n f v p : List ℕ) → b.recipe < 256 → n ≡ to_be_bytes w16 b.number → f ≡ to_be_bytes w32 b.factor
+    → v ≡ to_be_bytes w32 b.raw → p ≡ to_be_bytes w32 b.preset
+    → ys ≡ get_or n 0 0 ∷ get_or n 1 0 ∷ b.recipe ∷ get_or f 2 0 ∷ get_or f 3 0 ∷ get_or v 0 0 ∷ get_or v 1 0 ∷ get_or v 2 0 ∷ get_or v 3 0
+    ∷ get_or p 1 0 ∷ get_or p 2 0 ∷ get_or p 3 0 ∷ []
+    → take at o ++ (ys ++ drop (at + batch_width - at) (drop at o)) ≡ over_at at (batch_bytes b) o
+unfolding pack big_endian over_at
+batch_put b at o ys n f v p h en ef ev ep e =
+    let r : b.recipe % 256 ≡ b.recipe = omega arith in
+    let two : (x : ℕ) → x / 65536 % 256 ≡ x / 256 / 256 % 256 = λ (x : ℕ). omega arith in
+    let three : (x : ℕ) → x / 16777216 % 256 ≡ x / 256 / 256 / 256 % 256 = λ (x : ℕ). omega arith in
+    let bytes : ys ≡ batch_bytes b = e ∙ simp (en, ef, ev, ep, two, three, r) in
+    let behind : drop (at + batch_width - at) (drop at o) ≡ drop (at + batch_width) o =
+    let i : at + batch_width - at ≡ batch_width = omega arith in ap (λ (k : ℕ). drop k (drop at o)) i ∙ drop-drop batch_width at o in
+    ap (λ (x : List ℕ). take at o ++ (x ++ drop (at + batch_width - at) (drop at o))) bytes
+    ∙ ap (λ (x : List ℕ). take at o ++ (batch_bytes b ++ x)) behind
 
 -- ---- several batches
 pub batch_length : (b : Batch) → length (batch_bytes b) ≡ batch_width
@@ -75,8 +70,8 @@ module _ (k : Bank) (i : ℕ) (o y z : List ℕ) (full : length k.batches ≡ mo
       (ap (λ (n : ℕ). over_at (header_width + n) (batch_bytes b) (over_at header_width (all_bytes bs) o)) (sym l) ∙
       (sym (over_at-append header_width (all_bytes bs) (batch_bytes b) o) ∙ ap (λ (x : List ℕ). over_at header_width x o) (sym (ap all_bytes t ∙ bytes-last bs b)))))
 
-  pub laid-length : length y ≡ length o → z ≡ over_at (header_width + batch_width * i) (batch_bytes (get_or k.batches i no_batch)) y → length z ≡ length o
-  laid-length e w =
+  pub laid_length : length y ≡ length o → z ≡ over_at (header_width + batch_width * i) (batch_bytes (get_or k.batches i no_batch)) y → length z ≡ length o
+  laid_length e w =
       let b : Batch = get_or k.batches i no_batch in
       ap length w ∙ (over_at-length (header_width + batch_width * i) (batch_bytes b) y (omega (arith, batch_length b)) ∙ e)
 
@@ -125,3 +120,5 @@ module _ (k : Bank) (b : Bool) (v : b ≡ valid k) where
         (ap (λ (m : ℕ). over_at m g (over_at 0 f o)) place ∙
         (sym (over_at-append 0 f g o) ∙ (over_at_start (f ++ g) o ∙ ap (λ (x : List ℕ). over x o) whole)))) in
         ap (λ (x : List ℕ). (done, x)) w ∙ simp (sym v ∙ not-false b n, le-leb _ _ h)
+
+pub ruleset writing = (few_kept, write_invalid, write_short, write_whole)

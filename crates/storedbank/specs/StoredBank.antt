@@ -1,14 +1,13 @@
 -- Document 02, L7: "The stored bank: version byte 1, total length in 2 bytes, batches oldest first."
-use Rattle.std.specs.Prelude.{ℕ, zero, suc, ◌+◌, ◌-◌, ◌*◌, ◌/◌, ◌%◌, Bool, ◌&&◌, List, [], ◌∷◌, ◌++◌, eqb, leb, length, get_or, take, drop, replicate}
+use Rattle.std.specs.Prelude.{ℕ, zero, suc, ◌+◌, ◌-◌, ◌*◌, ◌/◌, ◌%◌, Bool, ◌&&◌, List, [], ◌∷◌, ◌++◌, eqb, leb, length, get_or, take, drop, replicate, Result, Ok, Err}
 use Rattle.base.specs.Test.{unless}
 use Rattle.base.specs.Lists.{over}
 use Rattle.stored.specs.Form.{big_endian, number_of, pack, unpack}
 use Rattle.bank.specs.declared.Batch.{Batch}
 use Rattle.bank.specs.declared.Bank.{Bank}
-use Rattle.storedbank.specs.declared.Written.{Written}
-use Rattle.storedbank.specs.declared.Written.TheVariants as written
-use Rattle.storedbank.specs.declared.Answer.{Answer}
-use Rattle.storedbank.specs.declared.Answer.TheVariants as answer
+use Rattle.storedbank.specs.declared.WriteRefusal.{WriteRefusal}
+use Rattle.storedbank.specs.declared.WriteRefusal.TheVariants as refused
+use Rattle.storedbank.specs.declared.Refused.{Refused}
 use Rattle.bank.specs.Bank.{most, batch_numbers, all_valid, batches_in, valid, bank_of, no_batch, empty_bank}
 
 -- ---- the bytes of a batch: "(12 bytes: 2, 1, 2, 4, 3)"
@@ -45,14 +44,18 @@ pub data Outcome : Type 0 where
   K : ℕ → Outcome
   done : Outcome
 
-abbrev pub written_as : Written → Outcome
-written_as written.InvalidBank = K 5
-written_as written.ShortBuffer = K 6
-written_as written.Whole = done
+abbrev pub written_as : Result (Unit {0}) WriteRefusal → Outcome
+written_as (Err refused.InvalidBank) = K 5
+written_as (Err refused.ShortBuffer) = K 6
+written_as (Ok u) = done
 
-abbrev pub answer_as : Answer → Outcome
-answer_as answer.Whole = done
-answer_as answer.Refused = K 7
+-- "K7 .., with an empty bank beside it"
+abbrev pub refusal : Outcome × Bank
+refusal = (K 7, empty_bank)
+
+abbrev pub reading_as : Result Bank Refused → Outcome × Bank
+reading_as (Ok k) = (done, k)
+reading_as (Err e) = refusal
 
 -- ---- writing: "K5 also for a bank ..; K6 a buffer under the bank's length"; the buffer is untouched then, and else its rest stays
 unfoldable pub write_of : Bank → List ℕ → Outcome × List ℕ
@@ -93,10 +96,6 @@ length_right bs =
 
 abbrev pub well_formed : List ℕ → Bool
 well_formed bs = eqb (get_or bs 0 0) 1 && (length_right bs && all_valid (held_in bs))
-
--- "K7 .., with an empty bank beside it"
-abbrev pub refusal : Outcome × Bank
-refusal = (K 7, empty_bank)
 
 unfoldable pub read_of : List ℕ → Outcome × Bank
 read_of bs = unless (well_formed bs) refusal (done, bank_with (held_in bs))

@@ -1,16 +1,14 @@
 // The stored form of a bank.
 #![tactic(auto)]
 
-ghost use Rattle.std.specs.Prelude.{◌≡◌, ◌+◌, ◌≤◌, ◌<◌, length, take, drop};
+ghost use Rattle.std.specs.Prelude.{◌≡◌, ◌+◌, ◌≤◌, length, take, drop};
 ghost use Rattle.base.specs.Lists.{over_at};
 ghost use Rattle.stored.specs.Form.{number_of};
 ghost use Rattle.bank.specs.Bank.{most, batches_in};
-ghost use Rattle.storedbank.specs.StoredBank.{written_as, answer_as, batch_width, header_width, bank_length, batch_bytes, all_bytes, header_bytes, write_of, refusal, read_of, open_of};
+ghost use Rattle.storedbank.specs.StoredBank.{written_as, reading_as, batch_width, header_width, bank_length, batch_bytes, all_bytes, header_bytes, write_of, read_of, open_of};
 ghost use Rattle.storedbank.specs.Steps.{header_of, batch_found, body_of};
 
 use bank::{Bank, Batch, MOST};
-use base::wide;
-use text::put_word;
 
 const VERSION: u8 = 1;
 
@@ -23,76 +21,54 @@ const BATCH: usize = 2 + 1 + 2 + 4 + 3;
 // Bytes of a full bank.
 pub const ROOM: usize = HEADER + BATCH * MOST;
 
-// What writing answers.
-#[derive(Clone, Copy)]
-pub enum Written {
+// Why a bank is not written.
+#[derive(Clone, Copy, PartialEq, Eq)]
+pub enum WriteRefusal {
     // K5
     InvalidBank,
     // K6
     ShortBuffer,
-    Whole,
 }
 
-// What reading answers, beside the bank.
-#[derive(Clone, Copy)]
-pub enum Answer {
-    Whole,
-    // K7
-    Refused,
-}
-
-#[derive(Clone, Copy)]
-pub struct Reading {
-    pub answer: Answer,
-    pub bank: Bank,
-}
-
-// What the header's reader answers: the number of batches.
-#[derive(Clone, Copy)]
-enum Header {
-    Batches(usize),
-    Refused,
-}
-
-// What a batch's reader answers.
-#[derive(Clone, Copy)]
-enum Found {
-    Inside(Batch),
-    Outside,
-}
+// K7: the bytes are no stored bank.
+#[derive(Clone, Copy, PartialEq, Eq)]
+pub struct Refused;
 
 // ---- writing
 
 // Stores version and length.
+#[tactic(auto, unfolding(crate::specs::StoredBank::header_bytes, stored::specs::Form::big_endian, base::specs::Lists::over_at))]
 fn put_header(count: usize, out: &mut [u8])
     requires { (count ≤ most) × (header_width ≤ length out.old) }
     ensures { out.new ≡ over_at 0 (header_bytes count) out.old }
 {
-    let total = HEADER + BATCH * count;
-    let bytes = [VERSION, (total / 256 % 256) as u8, (total % 256) as u8];
-    put_word(&bytes, 0, out);
+    let [high, low] = ((HEADER + BATCH * count) as u16).to_be_bytes();
+    out[..HEADER].copy_from_slice(&[VERSION, high, low]);
 }
 
-// Stores a batch at a place.
+// Stores a batch at a place of the whole buffer, of which the promise speaks.
 fn put_batch(batch: Batch, at: usize, out: &mut [u8])
     requires { at + batch_width ≤ length out.old }
     ensures { out.new ≡ over_at at (batch_bytes batch) out.old }
 {
-    let bytes = [
-        (batch.number / 256 % 256) as u8,
-        (batch.number % 256) as u8,
+    let number = batch.number.to_be_bytes();
+    let factor = batch.factor.to_be_bytes();
+    let raw = batch.raw.to_be_bytes();
+    let preset = batch.preset.to_be_bytes();
+    out[at..at + BATCH].copy_from_slice(&[
+        number[0],
+        number[1],
         batch.recipe,
-        (batch.factor / 256 % 256) as u8,
-        (batch.factor % 256) as u8,
-        (batch.raw / 256 / 256 / 256 % 256) as u8,
-        (batch.raw / 256 / 256 % 256) as u8,
-        (batch.raw / 256 % 256) as u8,
-        (batch.raw % 256) as u8,
-        (batch.preset / 256 / 256 % 256) as u8,
-        (batch.preset / 256 % 256) as u8,
-        (batch.preset % 256) as u8,
-    ];
-    put_word(&bytes, at, out);
+        factor[2],
+        factor[3],
+        raw[0],
+        raw[1],
+        raw[2],
+        raw[3],
+        preset[1],
+        preset[2],
+        preset[3],
+    ]);
 }
 
 // Stores the batches behind the header, the oldest first.
@@ -100,136 +76,110 @@ fn put_batches(bank: Bank, out: &mut [u8])
     requires { (bank.count ≤ most) × (bank_length bank.count ≤ length out.old) }
     ensures { out.new ≡ over_at header_width (all_bytes (batches_in bank)) out.old }
 {
-    let count = bank.count;
-    let mut i = 0;
-    while i < count {
+    for i in 0..bank.count {
         put_batch(bank.batches[i], HEADER + BATCH * i, out);
-        i += 1;
     }
 }
 
 // Writes the stored form to the start of out. A refusal leaves out as it was.
-pub fn write(bank: Bank, out: &mut [u8]) -> Written
+#[tactic(auto, using(crate::proofs::Writing::writing))]
+pub fn write(bank: Bank, out: &mut [u8]) -> Result<(), WriteRefusal>
     ensures { (written_as result, out.new) ≡ write_of bank out.old }
 {
     if !bank.valid() {
-        return Written::InvalidBank;
+        return Err(WriteRefusal::InvalidBank);
     }
     let count = bank.count;
     if out.len() < HEADER + BATCH * count {
-        return Written::ShortBuffer;
+        return Err(WriteRefusal::ShortBuffer);
     }
     put_header(count, out);
     put_batches(bank, out);
-    Written::Whole
+    Ok(())
 }
 
 // ---- reading
 
-// The number that two bytes are.
-fn two(s: &[u8], at: usize) -> u32
-    requires { at + 2 ≤ length s.now }
-    ensures { (result ≡ number_of (take 2 (drop at s.now))) × (result < 65536) }
+// The total length that a header tells.
+#[tactic(auto, using(crate::proofs::Taking::two))]
+fn length_field(s: &[u8]) -> usize
+    requires { header_width ≤ length s.now }
+    ensures { result ≡ number_of (take 2 (drop 1 s.now)) }
 {
-    wide(s[at]) * 256 + wide(s[at + 1])
+    usize::from(u16::from_be_bytes([s[1], s[2]]))
 }
 
-// Reads version and length.
-fn read_header(s: &[u8]) -> Header
+// Reads version and length, and gives the number of batches.
+#[tactic(auto, unfolding(crate::specs::Steps::header_of))]
+fn read_header(s: &[u8]) -> Option<usize>
     ensures { result ≡ header_of s.now }
 {
-    if s.len() < HEADER {
-        return Header::Refused;
-    }
-    if s[0] != VERSION {
-        return Header::Refused;
-    }
-    if two(s, 1) as usize != s.len() {
-        return Header::Refused;
+    if s.len() < HEADER || s[0] != VERSION || length_field(s) != s.len() {
+        return None;
     }
     let body = s.len() - HEADER;
-    if body % BATCH != 0 {
-        return Header::Refused;
+    if body % BATCH != 0 || MOST < body / BATCH {
+        return None;
     }
-    if MOST < body / BATCH {
-        return Header::Refused;
-    }
-    Header::Batches(body / BATCH)
+    Some(body / BATCH)
 }
 
 // Reads the batch at a place, whose fields must lie in their ranges.
-fn read_batch(s: &[u8], at: usize) -> Found
+fn read_batch(s: &[u8], at: usize) -> Option<Batch>
     requires { at + batch_width ≤ length s.now }
     ensures { result ≡ batch_found at s.now }
 {
+    let s = &s[at..at + BATCH];
     let batch = Batch {
-        number: two(s, at) as u16,
-        recipe: s[at + 2],
-        factor: two(s, at + 3),
-        raw: two(s, at + 5) * 65536 + two(s, at + 7),
-        preset: wide(s[at + 9]) * 65536 + two(s, at + 10),
+        number: u16::from_be_bytes([s[0], s[1]]),
+        recipe: s[2],
+        factor: u32::from_be_bytes([0, 0, s[3], s[4]]),
+        raw: u32::from_be_bytes([s[5], s[6], s[7], s[8]]),
+        preset: u32::from_be_bytes([0, s[9], s[10], s[11]]),
     };
     if !batch.valid() {
-        return Found::Outside;
+        return None;
     }
-    Found::Inside(batch)
-}
-
-fn refused() -> Reading
-    ensures { (answer_as result.answer, result.bank) ≡ refusal }
-{
-    let bank = bank::empty();
-    Reading {
-        answer: Answer::Refused,
-        bank: bank,
-    }
+    Some(batch)
 }
 
 // Reads so many batches behind the header.
-fn read_batches(s: &[u8], count: usize) -> Reading
+fn read_batches(s: &[u8], count: usize) -> Result<Bank, Refused>
     requires { (count ≤ most) × (bank_length count ≤ length s.now) }
-    ensures { (answer_as result.answer, result.bank) ≡ body_of count s.now }
+    ensures { reading_as result ≡ body_of count s.now }
 {
-    let empty = bank::empty();
-    let mut batches = empty.batches;
-    let mut i = 0;
-    while i < count {
-        let Found::Inside(batch) = read_batch(s, HEADER + BATCH * i) else {
-            return refused();
+    let mut bank = bank::empty();
+    for i in 0..count {
+        let Some(batch) = read_batch(s, HEADER + BATCH * i) else {
+            return Err(Refused);
         };
-        batches[i] = batch;
-        i += 1;
+        bank.batches[i] = batch;
     }
-    let bank = Bank {
-        count: count,
-        batches: batches,
-    };
-    Reading {
-        answer: Answer::Whole,
-        bank: bank,
-    }
+    bank.count = count;
+    Ok(bank)
 }
 
-// Reads a stored bank. Beside a refusal stands an empty bank.
-pub fn read(s: &[u8]) -> Reading
-    ensures { (answer_as result.answer, result.bank) ≡ read_of s.now }
+// Reads a stored bank. Where a bank has to stand beside a refusal, it is `bank::empty()`.
+#[tactic(auto, using(crate::proofs::Taking::reading))]
+pub fn read(s: &[u8]) -> Result<Bank, Refused>
+    ensures { reading_as result ≡ read_of s.now }
 {
-    let Header::Batches(count) = read_header(s) else {
-        return refused();
+    let Some(count) = read_header(s) else {
+        return Err(Refused);
     };
     read_batches(s, count)
 }
 
 // Reads the stored bank that a buffer with room for a full one starts with.
-pub fn open(s: &[u8]) -> Reading
-    ensures { (answer_as result.answer, result.bank) ≡ open_of s.now }
+#[tactic(auto, using(crate::proofs::Taking::opening))]
+pub fn open(s: &[u8]) -> Result<Bank, Refused>
+    ensures { reading_as result ≡ open_of s.now }
 {
     if s.len() != ROOM {
-        return refused();
+        return Err(Refused);
     }
-    let end = two(s, 1) as usize;
-    if ROOM < end {
-        return refused();
-    }
-    read(&s[0..end])
+    let Some(front) = s.get(..length_field(s)) else {
+        return Err(Refused);
+    };
+    read(front)
 }

@@ -5,18 +5,18 @@ use mathlib.Core.List.{List, [], ◌∷◌, ◌++◌, map-append}
 use native.Mathlib.Omega.{arith}
 use native.Mathlib.Numerals.{add-one}
 use lib.ListN.{length, take, drop, set, length-set, length-map}
-use lib.Seq.{drop-drop, take-suc-set}
+use lib.Seq.{drop-drop, take-suc-set, take_all}
+use Rattle.std.specs.Prelude.{Result, Ok, Err}
 use borrow.Author.Tests.{ne_eqb}
 use Rattle.state.specs.declared.Record.{Record}
 use Rattle.stored.specs.declared.Refusal.{Refusal}
-use Rattle.stored.specs.declared.Answer.{Answer}
-use Rattle.stored.specs.declared.Answer.TheVariants as answer
 use Rattle.stored.specs.Form as stored
-use Rattle.stored.specs.Form.{refusal_number, answer_as, read_of}
+use Rattle.stored.specs.Form.{refusal_number, reading_as, read_of}
 use Rattle.stored.specs.Layout.{current}
 use Rattle.stored.proofs.Versions.{length_of}
 use Rattle.stored.proofs.RoundTrip.{stored_180, read_refusal}
 use Rattle.storedboard.specs.StoredBoard.{each, forms_in, records_in, refusal_in, first_refused}
+use Rattle.storedboard.specs.Steps.{read_as}
 
 -- the bytes of one record, as the code's number
 abbrev pub width : ℕ
@@ -85,22 +85,18 @@ refused-later b bs e = simp e
 
 -- ---- what holds before the turn at place i
 pub record Passed (s : List ℕ) (n : ℕ) (rs : List Record) (i : ℕ) : Type 0 where
-  pub few : n ≤ 16
   pub room : n * each ≤ length s
-  pub within : i ≤ n
-  pub size : length rs ≡ 16
+  pub size : length rs ≡ n
   pub refusal_left : first_refused (forms_in n s) ≡ first_refused (forms_in (n - i) (drop (i * each) s))
   pub records_read : take i rs ≡ records_in (forms_in i s)
 
-pub none_yet : {s : List ℕ} {n : ℕ} {rs : List Record} → n ≤ 16 → n * each ≤ length s → length rs ≡ 16 → Passed s n rs 0
+pub none_yet : {s : List ℕ} {n : ℕ} {rs : List Record} → n * each ≤ length s → length rs ≡ n → Passed s n rs 0
 unfolding forms_in
-none_yet {s} {n} {rs} h g l =
+none_yet {s} {n} {rs} g l =
     let e : 0 * each ≡ 0 = simp width_is in
     let d : n - 0 ≡ n = omega arith in
     record {
-      few = h;
       room = g;
-      within = omega arith;
       size = l;
       refusal_left = sym (ap (λ (m : ℕ). first_refused (forms_in m (drop (0 * each) s))) d ∙ ap (λ (m : ℕ). first_refused (forms_in n (drop m s))) e);
       records_read = refl;
@@ -108,54 +104,51 @@ none_yet {s} {n} {rs} h g l =
 
 module _ {s : List ℕ} {n : ℕ} {rs : List Record} {i : ℕ} (p : Passed s n rs i) where
   -- all are read
-  pub all_read : n ≤ i → (0 ≡ first_refused (forms_in n s)) × (◌≡◌ {A = ℕ} 0 0 → take n rs ≡ records_in (forms_in n s))
+  pub all_read : i ≡ n → (0 ≡ first_refused (forms_in n s)) × (◌≡◌ {A = ℕ} 0 0 → rs ≡ records_in (forms_in n s))
   unfolding forms_in first_refused
-  all_read h =
-      let w = p.within in
-      let e : i ≡ n = omega arith in
+  all_read e =
+      let l = p.size in
       let z : n - i ≡ 0 = omega arith in (
         sym (p.refusal_left ∙ ap (λ (m : ℕ). first_refused (forms_in m (drop (i * each) s))) z),
-        λ u. ap (λ (m : ℕ). take m rs) (sym e) ∙ (p.records_read ∙ ap (λ (m : ℕ). records_in (forms_in m s)) e),
+        λ u. sym (take_all i rs (omega arith)) ∙ (p.records_read ∙ ap (λ (m : ℕ). records_in (forms_in m s)) e),
       )
 
   module _ (h : i < n) where
-    -- the part fits into the lent bytes, and the place into the list
+    -- the part fits into the lent bytes
     pub part_fits : i * width + width ≤ length s
     part_fits =
         let g : n * width ≤ length s = simp width_is at p.room in
         omega arith
 
-    place-fits : i < length rs
-    place-fits = let f = p.few in let l = p.size in omega arith
-
-    module _ (a : Answer) {r : Record} (e : (answer_as a, r) ≡ read_of (take (i * width + width - i * width) (drop (i * width) s))) where
-      read_here : read_of (take each (drop (i * each) s)) ≡ (answer_as a, r)
+    module _ (x : Result Record Refusal) (e : reading_as x ≡ read_of (take (i * width + width - i * width) (drop (i * width) s))) where
+      read_here : read_of (take each (drop (i * each) s)) ≡ reading_as x
       read_here = sym (e ∙ ap read_of (form_at i s))
 
       -- the record at place i is refused
-      pub found_refused : {w : Refusal} {m : ℕ} → a ≡ answer.Refused w → m ≡ refusal_number w
-          → (m ≡ first_refused (forms_in n s)) × (m ≡ 0 → take n rs ≡ records_in (forms_in n s))
-      found_refused {w} {m} z q =
-          let k : read_of (take each (drop (i * each) s)) ≡ (stored.K (refusal_number w), r) = read_here ∙ ap (λ (x : Answer). (answer_as x, r)) z in
-          let l : 1 ≤ m = omega (arith, (read_refusal _ _ _ k).low) in
-          let t : refusal_in (read_of (take each (drop (i * each) s))).0 ≡ m = ap (λ (x : stored.Outcome × Record). refusal_in x.0) k ∙ sym q in
-          (sym (p.refusal_left ∙ (ap first_refused (forms_from n i s h) ∙ refused_here _ _ m t l)), λ u. absurd (omega arith))
+      pub found_refused : (k : Refusal) → x ≡ Err k → (y : Result (Unit {0}) Refusal) → y ≡ Err k → (ts : List Record)
+          → (read_as y ≡ first_refused (forms_in n s)) × (read_as y ≡ 0 → ts ≡ records_in (forms_in n s))
+      found_refused k z y q ts =
+          let t : refusal_in (read_of (take each (drop (i * each) s))).0 ≡ refusal_number k = ap (λ (y : stored.Outcome × Record). refusal_in y.0) (read_here ∙ ap reading_as z) in
+          let l : 1 ≤ refusal_number k = (read_refusal _ _ _ (read_here ∙ ap reading_as z)).low in (
+            ap read_as q ∙ sym (p.refusal_left ∙ (ap first_refused (forms_from n i s h) ∙ refused_here _ _ (refusal_number k) t l)),
+            λ u. let w = ap read_as q in absurd (omega arith),
+          )
 
       -- it is read whole
-      pub one_more : a ≡ answer.Whole → Passed s n (set rs i r) (i + 1)
-      one_more z =
-          let t : refusal_in (read_of (take each (drop (i * each) s))).0 ≡ 0 = ap (λ (x : stored.Outcome × Record). refusal_in x.0) read_here ∙ ap (λ (x : Answer). refusal_in (answer_as x)) z in
+      pub one_more : (r : Record) → x ≡ Ok r → Passed s n (set rs i r) (i + 1)
+      one_more r z =
+          let y : read_of (take each (drop (i * each) s)) ≡ (stored.done, r) = read_here ∙ ap reading_as z in
+          let t : refusal_in (read_of (take each (drop (i * each) s))).0 ≡ 0 = ap (λ (y : stored.Outcome × Record). refusal_in y.0) y in
+          let size = p.size in
           record {
-            few = p.few;
             room = p.room;
-            within = omega arith;
             size = length-set rs i r ∙ p.size;
             refusal_left = p.refusal_left ∙ (ap first_refused (forms_from n i s h) ∙ refused-later _ _ t);
             records_read =
                 ap (λ (j : ℕ). take j (set rs i r)) (add-one i)
-                ∙ (take-suc-set rs i r place-fits
+                ∙ (take-suc-set rs i r (omega arith)
                 ∙ (ap (λ (ts : List Record). ts ++ (r ∷ [])) p.records_read
-                ∙ (ap (λ (x : stored.Outcome × Record). records_in (forms_in i s) ++ (x.1 ∷ [])) (sym read_here)
+                ∙ (ap (λ (y : stored.Outcome × Record). records_in (forms_in i s) ++ (y.1 ∷ [])) (sym y)
                 ∙ (sym (map-append (λ (b : List ℕ). (read_of b).1) (forms_in i s) (take each (drop (i * each) s) ∷ []))
                 ∙ ap records_in (sym (ap (λ (j : ℕ). forms_in j s) (add-one i) ∙ forms_more i s))))));
           }

@@ -1,17 +1,16 @@
 -- Document 02, L5, over bytes: a board whose records are lent end to end in their stored form.
 -- s are these bytes, q is the lent request, o the lent reply buffer.
-use Rattle.std.specs.Prelude.{ℕ, zero, suc, ◌/◌, ◌%◌, List, [], ◌∷◌, ◌++◌, map, eqb, length, take, drop}
+use Rattle.std.specs.Prelude.{ℕ, zero, suc, ◌/◌, ◌%◌, List, [], ◌∷◌, ◌++◌, map, eqb, length, take, drop, Result, Ok, Err}
 use Rattle.base.specs.Test.{pick, unless, between}
 use Rattle.state.specs.declared.Record.{Record}
 use Rattle.state.specs.Field.{address, get}
 use Rattle.stored.specs.Layout.{current}
 use Rattle.stored.specs.Form as stored
-use Rattle.stored.specs.Form.{K, done, stored_length, stored_form, read_of}
+use Rattle.stored.specs.Form.{K, done, refusal_number, stored_length, stored_form, read_of}
 use Rattle.frame.specs.declared.Kind.{Kind}
-use Rattle.board.specs.declared.Answer as board
+use Rattle.board.specs.Board as board
 use Rattle.board.specs.Board.{Outcome, asked, board_of, answer_silence, answer_length}
-use Rattle.storedboard.specs.declared.Answer.{Answer}
-use Rattle.storedboard.specs.declared.Answer.TheVariants as answer
+use Rattle.stored.specs.declared.Refusal.{Refusal}
 
 -- the bytes of one record
 abbrev pub each : ℕ
@@ -83,6 +82,6 @@ stored_board_of k s q o =
 abbrev pub called_as : board.Answer → List ℕ → List ℕ → Left
 called_as a s o = record { refused = 0; silence = answer_silence a; reported = answer_length a; stored = s; buffer = o }
 
-abbrev pub left_as : Answer → List ℕ → List ℕ → Left
-left_as (answer.Refused n) s o = refused_by n s o
-left_as (answer.Called a) s o = called_as a s o
+abbrev pub left_as : Result board.Answer Refusal → List ℕ → List ℕ → Left
+left_as (Err k) s o = refused_by (refusal_number k) s o
+left_as (Ok a) s o = called_as a s o

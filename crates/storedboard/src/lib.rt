@@ -1,103 +1,78 @@
 // A board whose records are lent end to end in their stored form.
 #![tactic(auto)]
 
-ghost use Rattle.std.specs.Prelude.{◌≡◌, ◌*◌, ◌≤◌, length, take};
+ghost use Rattle.std.specs.Prelude.{◌≡◌, ◌*◌, ◌≤◌, length};
 ghost use Rattle.frame.specs.Answer.{address_of};
-ghost use Rattle.board.specs.Board.{answer_silence, board_of};
+ghost use Rattle.board.specs.Board.{board_of};
 ghost use Rattle.storedboard.specs.StoredBoard.{each, forms_in, records_in, first_refused, called_as, left_as, stored_board_of};
-ghost use Rattle.storedboard.specs.Steps.{target, saved_of, lent_of};
+ghost use Rattle.storedboard.specs.Steps.{read_as, target, saved, lent_of};
 
 use board::RECORDS;
-use frame::{Addressed, Kind};
+use frame::Kind;
 use state::Record;
-use stored::STORED_LENGTH;
+use stored::{Refusal, STORED_LENGTH};
 
-#[derive(Clone, Copy)]
-pub enum Answer {
-    // The number n of Kn: K1 for the length of the whole, or that of the first record that is refused.
-    Refused(u8),
-    // S9, S11, S2 to S8, or the length of the reply frame.
-    Called(board::Answer),
-}
+// K1 for the length of the whole, or that of the first record that is refused; or the board's: S9, S11, S2 to S8, or the length of the
+// reply frame.
+pub type Answer = Result<board::Answer, Refusal>;
 
-// The first n records, up to the first that is refused, whose refusal is told.
-fn read_records(stored: &[u8], n: usize, refused: &mut u8) -> [Record; RECORDS]
-    requires { (n ≤ 16) × (n * each ≤ length stored.now) }
-    ensures { (refused.new ≡ first_refused (forms_in n stored.now)) × (refused.new ≡ 0 → take n result ≡ records_in (forms_in n stored.now)) }
+// Reads the records, up to the first that is refused.
+fn read_records(stored: &[u8], records: &mut [Record]) -> Result<(), Refusal>
+    requires { length records.old * each ≤ length stored.now }
+    ensures { (read_as result ≡ first_refused (forms_in (length records.old) stored.now)) × (read_as result ≡ 0 → records.new ≡ records_in (forms_in (length records.old) stored.now)) }
 {
-    let low = stored::low_record();
-    let mut records = [low; RECORDS];
-    let mut i = 0;
-    while i < n {
+    for (i, record) in records.iter_mut().enumerate() {
         let at = i * STORED_LENGTH;
         let end = at + STORED_LENGTH;
-        let reading = stored::read(&stored[at..end]);
-        let answer = reading.answer;
-        let record = reading.record;
-        match answer {
-            stored::Answer::Whole => {
-                records[i] = record;
-            }
-            stored::Answer::Refused(why) => {
-                *refused = stored::number_of(why);
-                return records;
-            }
-        }
-        i += 1;
+        *record = stored::read(&stored[at..end])?;
     }
-    *refused = 0;
-    records
+    Ok(())
 }
 
-// The address that a request names; 0, which is no record's, if it names none.
-fn target_of(kind: Kind, request: &[u8]) -> u8
+// The address that a request names.
+#[tactic(auto, unfolding(crate::specs::Steps::target))]
+fn target_of(kind: Kind, request: &[u8]) -> Option<u8>
     ensures { result ≡ target (address_of kind request.now) }
 {
-    match frame::address(kind, request) {
-        Addressed::Silent(_) => 0,
-        Addressed::Unit(address, _) => address,
-    }
+    let Ok(asked) = frame::address(kind, request) else {
+        return None;
+    };
+    Some(asked.unit)
 }
 
-// Writes the record with that address back in its place, if there was a reply; no other record's bytes are touched.
-fn save(answer: board::Answer, records: [Record; RECORDS], n: usize, address: u8, stored: &mut [u8])
-    requires { n ≤ 16 }
-    ensures { stored.new ≡ saved_of (answer_silence answer) address (take n records) stored.old }
+// Writes the record with that address back in its place; no other record's bytes are touched.
+fn save(records: &[Record], address: u8, stored: &mut [u8])
+    requires { length records.now ≤ 16 }
+    ensures { stored.new ≡ saved address records.now stored.old }
 {
-    if answer.is_silent() {
+    let Some(i) = board::place_of(address, records) else {
         return;
-    }
-    let mut i = 0;
-    while i < n {
-        let at = i * STORED_LENGTH;
-        let end = at + STORED_LENGTH;
-        if stored.len() < end {
-            return;
-        }
-        let record = records[i];
-        if record.address == address {
-            stored::write(record, &mut stored[at..end]);
-            return;
-        }
-        i += 1;
+    };
+    let at = i * STORED_LENGTH;
+    let end = at + STORED_LENGTH;
+    if end <= stored.len() {
+        let _ = stored::write(records[i], &mut stored[at..end]);
     }
 }
 
-// The board's call on the first n records, which are kept here for its length.
+// The board's call on the records, of which the one with the request's address is written back if there is a reply.
 fn lend(
     kind: Kind,
-    mut records: [Record; RECORDS],
-    n: usize,
-    address: u8,
+    records: &mut [Record],
     stored: &mut [u8],
     request: &[u8],
     out: &mut [u8],
 ) -> board::Answer
-    requires { n ≤ 16 }
-    ensures { called_as result stored.new out.new ≡ lent_of address (board_of kind (take n records) request.now out.old) stored.old }
+    requires { length records.old ≤ 16 }
+    ensures { called_as result stored.new out.new ≡ lent_of (target (address_of kind request.now)) (board_of kind records.old request.now out.old) stored.old }
 {
-    let answer = board::call(kind, &mut records[..n], request, out);
-    save(answer, records, n, address, stored);
+    let answer = board::call(kind, records, request, out);
+    if board::is_silent(answer) {
+        return answer;
+    }
+    if let Some(address) = target_of(kind, request) {
+        save(records, address, stored);
+    }
     answer
 }
 
@@ -107,20 +82,14 @@ pub fn call(kind: Kind, stored: &mut [u8], request: &[u8], out: &mut [u8]) -> An
     ensures { left_as result stored.new out.new ≡ stored_board_of kind stored.old request.now out.old }
 {
     if stored.len() % STORED_LENGTH != 0 {
-        return Answer::Refused(1);
+        return Err(Refusal::Length);
     }
     let n = stored.len() / STORED_LENGTH;
-    if n < 1 {
-        return Answer::Called(board::Answer::Refused(board::Refusal::ListLength));
+    if !(1..=RECORDS).contains(&n) {
+        return Ok(Err(board::Refusal::ListLength));
     }
-    if RECORDS < n {
-        return Answer::Called(board::Answer::Refused(board::Refusal::ListLength));
-    }
-    let mut refused = 0u8;
-    let records = read_records(stored, n, &mut refused);
-    if refused != 0 {
-        return Answer::Refused(refused);
-    }
-    let address = target_of(kind, request);
-    Answer::Called(lend(kind, records, n, address, stored, request, out))
+    let mut records = [stored::low_record(); RECORDS];
+    let records = &mut records[..n];
+    read_records(stored, records)?;
+    Ok(lend(kind, records, stored, request, out))
 }

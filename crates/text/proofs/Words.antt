@@ -2,19 +2,21 @@
 -- that the code's facts have, so that `search` finds them. Assumes nothing.
 use Prim.Native.Nat.{ℕ, zero, suc, ◌+◌, ◌-◌, ◌*◌, ◌/◌, ◌%◌, ◌^◌, ◌≤◌, ◌<◌}
 use mathlib.Core.Path.{◌≡◌, refl, ap, sym, ◌∙◌}
-use mathlib.Core.Bool.{Bool, true, false, not, ◌&&◌}
+use mathlib.Core.Bool.{Bool, true, false, ◌&&◌}
 use mathlib.Core.List.{List, [], ◌∷◌, ◌++◌, append_assoc, append-nil}
 use native.Mathlib.Nat.{pow-suc, pow-le-pow_right, mul-le-mul_right}
 use native.Mathlib.Numerals.{add-one}
 use native.Mathlib.Omega.{arith}
 use lib.Dec.{eqb, leb}
-use lib.ListN.{length, take, drop, get_or, length-append, length-drop, length-take, drop_of_length-le}
-use borrow.Author.Tests.{le-leb, lt-leb, eq-eqb, ne_eqb, eqb-true, not-true, not-false}
+use lib.ListN.{length, take, drop, get_or, length-append, length-drop, drop_of_length-le}
+use borrow.Author.Tests.{le-leb, lt-leb, eq-eqb, ne_eqb, eqb-true}
 use Rattle.base.specs.Test.{pick, between, all_between}
-use Rattle.base.proofs.Tests.{never, by_test, and_yes, and_left, and_right, between_yes, between_low, between_high}
+use lib.Pointwise.{pointwise}
+use lib.Seq.{take_all}
+use Rattle.std.specs.List.{starts_with}
+use Rattle.base.proofs.Tests.{by_test, eqb-turned, never, and_yes, and_left, and_right, between_yes, between_low, between_high}
 use Rattle.base.proofs.Lists.{next}
-use Rattle.text.specs.declared.Digits.{Digits}
-use Rattle.text.specs.declared.Digits.TheVariants as digits_read
+use Rattle.std.specs.Prelude.{Some, None}
 use Rattle.text.specs.Word.{digits, all_digits, value_from, value_of, number_for, equal}
 
 -- ---- digits
@@ -122,9 +124,6 @@ pub record Reading (s : List ℕ) (n i : ℕ) : Type 0 where
   pub left : all_digits (drop i s) ≡ true
   pub whole : value_from n (drop i s) ≡ value_of s
 
-pub reading_start : (s : List ℕ) → all_digits s ≡ true → Reading s 0 0
-reading_start s h = record { at = omega arith; small = omega arith; left = h; whole = refl }
-
 reading_left : (s : List ℕ) (n i : ℕ) → i < length s → Reading s n i → all_digits (get_or s i 0 ∷ drop (i + 1) s) ≡ true
 reading_left s n i h r = sym (ap all_digits (next s i h)) ∙ r.left
 
@@ -148,7 +147,7 @@ reading_again s n i x h e r =
     let p : 10 ^ (i + 1) ≡ 10 ^ i * 10 = rw (add-one, pow-suc) in
     record {
       at = omega arith;
-      small = omega (arith, r.small);
+      small = omega (arith, r.small, d.high);
       left = digit_rest (get_or s i 0) (drop (i + 1) s) (reading_left s n i h r);
       whole = ap (λ (y : ℕ). value_from (n * 10 + (y - 0x30)) (drop (i + 1) s)) e ∙ sym (ap (value_from n) (next s i h)) ∙ r.whole;
     }
@@ -157,30 +156,25 @@ pub reading_done : (s : List ℕ) (n i : ℕ) → length s ≤ i → Reading s n
 unfolding value_from
 reading_done s n i h r = sym (ap (value_from n) (drop_of_length-le s h)) ∙ r.whole
 
--- ---- the loop of `is_word`
-word_turn : (s w : List ℕ) (i : ℕ) → i < length s → length s ≡ length w
-    → equal (drop i s) (drop i w) ≡ (eqb (get_or s i 0) (get_or w i 0) && equal (drop (i + 1) s) (drop (i + 1) w))
-unfolding equal
-word_turn s w i h e =
-    ap (λ (l : List ℕ). equal l (drop i w)) (next s i h) ∙ ap (λ (l : List ℕ). equal (get_or s i 0 ∷ drop (i + 1) s) l) (next w i (omega arith))
-
+-- byte strings of different lengths are not
 pub word-length : (s w : List ℕ) → (length s ≡ length w → ⊥) → false ≡ equal s w
 word-length s w h =
     by_test (equal s w) (λ (e : equal s w ≡ true). absurd (h (ap length (equal_true s w e)))) (λ (e : equal s w ≡ false). sym e)
 
-pub word_differs : (s w : List ℕ) (i : ℕ) (r : Bool) → length s ≡ length w → i < length s → (get_or s i 0 ≡ get_or w i 0 → ⊥)
-    → equal (drop i s) (drop i w) ≡ r → false ≡ r
-word_differs s w i r l h d e = sym (word_turn s w i h l ∙ simp (ne_eqb _ _ d)) ∙ e
-
-pub word_again : (s w : List ℕ) (i : ℕ) (r : Bool) → length s ≡ length w → i < length s → get_or s i 0 ≡ get_or w i 0
-    → equal (drop i s) (drop i w) ≡ r → equal (drop (i + 1) s) (drop (i + 1) w) ≡ r
-word_again s w i r l h d e = sym (word_turn s w i h l ∙ simp (eq-eqb _ _ d)) ∙ e
-
-pub word-done : (s w : List ℕ) (i : ℕ) (r : Bool) → length s ≡ length w → length s ≤ i → equal (drop i s) (drop i w) ≡ r → true ≡ r
+-- std's `==` and `starts_with` compute it
+pub equal-pointwise : (xs ys : List ℕ) → pointwise eqb xs ys ≡ equal xs ys
 unfolding equal
-word-done s w i r l h e =
-    let k : length w ≤ i = omega arith in
-    sym (ap (λ (y : List ℕ). equal y (drop i w)) (drop_of_length-le s h) ∙ ap (equal []) (drop_of_length-le w k)) ∙ e
+equal-pointwise [] [] = refl
+equal-pointwise [] (y ∷ ys) = refl
+equal-pointwise (x ∷ xs) [] = refl
+equal-pointwise (x ∷ xs) (y ∷ ys) = ap (λ (b : Bool). eqb x y && b) (equal-pointwise xs ys)
+
+pub equal-turned : (xs ys : List ℕ) → equal xs ys ≡ equal ys xs
+unfolding equal
+equal-turned [] [] = refl
+equal-turned [] (y ∷ ys) = refl
+equal-turned (x ∷ xs) [] = refl
+equal-turned (x ∷ xs) (y ∷ ys) = ap (λ (b : Bool). b && equal xs ys) (eqb-turned x y) ∙ ap (λ (b : Bool). eqb y x && b) (equal-turned xs ys)
 
 -- ---- `word_at`
 
@@ -196,59 +190,33 @@ module _ (s w : List ℕ) (at : ℕ) where
       let l : length s ≤ at = omega arith in
       nothing_left w ∙ ap (λ (y : List ℕ). equal (take (length w) y) w) (sym (drop_of_length-le s l))
 
-  pub stands_short : length s - at < length w → false ≡ equal (take (length w) (drop at s)) w
-  stands_short h =
-      let l : length (take (length w) (drop at s)) < length w = simp (length-take, length-drop) (omega arith) in
-      word-length (take (length w) (drop at s)) w (λ e. omega arith)
-
-  pub stands_as : (b : Bool) → b ≡ equal (take (at + length w - at) (drop at s)) w → b ≡ equal (take (length w) (drop at s)) w
-  stands_as b h =
-      let e : at + length w - at ≡ length w = omega arith in
-      h ∙ ap (λ (n : ℕ). equal (take n (drop at s)) w) e
-
-pub ruleset standing = (stands_beyond, stands_short, stands_as)
-
--- a word that stands at a place ends within the text
-pub word-within : (s w : List ℕ) (at : ℕ) → at ≤ length s → equal (take (length w) (drop at s)) w ≡ true → at + length w ≤ length s
-word-within s w at l h =
-    let e : length (take (length w) (drop at s)) ≡ length w = ap length (equal_true (take (length w) (drop at s)) w h) in
-    omega (arith, length-take (length w) (drop at s), length-drop at s)
+  pub stands_here : starts_with eqb (take (length s - at) (drop at s)) w ≡ equal (take (length w) (drop at s)) w
+  stands_here =
+      let e : take (length s - at) (drop at s) ≡ drop at s = take_all (length s - at) (drop at s) (omega (arith, length-drop at s)) in
+      ap (λ (y : List ℕ). starts_with eqb y w) e ∙ equal-pointwise w (take (length w) (drop at s)) ∙ equal-turned w (take (length w) (drop at s))
 
 -- ---- `read_number`
-pub digits_yes : (s : List ℕ) (r : Bool) → r ≡ all_digits s → not r ≡ false → all_digits s ≡ true
-digits_yes s r e x = sym e ∙ not-false r x
-
-pub number_long : (s : List ℕ) → 8 < length s → digits_read.Nothing ≡ number_for s
+pub number_long : (s : List ℕ) → 8 < length s → None ≡ number_for s
 unfolding number_for
 number_long s h = simp (lt-leb _ _ h)
 
-number-form : (s : List ℕ) → length s ≤ 8 → number_for s ≡ pick (all_digits s) (digits_read.Number (value_of s)) digits_read.Nothing
+number-form : (s : List ℕ) → length s ≤ 8 → number_for s ≡ pick (all_digits s) (Some (value_of s)) None
 unfolding number_for
 number-form s h = simp (le-leb _ _ h)
 
-module _ (s : List ℕ) (r : Bool) (h : length s ≤ 8) (e : r ≡ all_digits s) where
-  pub number_letter : not r ≡ true → digits_read.Nothing ≡ number_for s
-  number_letter x = sym (number-form s h ∙ simp (sym e ∙ not-true r x))
+pub number_letter : (s : List ℕ) → length s ≤ 8 → false ≡ all_digits s → None ≡ number_for s
+number_letter s h x = sym (number-form s h ∙ simp (sym x))
 
-  pub number_digits : (n : ℕ) → not r ≡ false → n ≡ value_of s → digits_read.Number n ≡ number_for s
-  number_digits n x v = sym (number-form s h ∙ simp (digits_yes s r e x, v))
-
-pub ruleset number-reading = (number_long, number_letter, number_digits)
+pub number_digits : (s : List ℕ) (n : ℕ) → length s ≤ 8 → true ≡ all_digits s → n ≡ value_of s → Some n ≡ number_for s
+number_digits s n h x v = sym (number-form s h ∙ simp (sym x, v))
 
 -- what its answers say
-picked-number : (t : Bool) (m n : ℕ) → pick t (digits_read.Number m) digits_read.Nothing ≡ digits_read.Number n → (t ≡ true) × (n ≡ m)
+picked-number : (t : Bool) (m n : ℕ) → pick t (Some m) None ≡ Some n → (t ≡ true) × (n ≡ m)
 picked-number true m n e = (refl, (cc))
 picked-number false m n e = absurd (never (cc))
 
-picked-nothing : (t : Bool) (m : ℕ) → pick t (digits_read.Number m) digits_read.Nothing ≡ digits_read.Nothing → t ≡ false
-picked-nothing true m e = absurd (never (cc))
-picked-nothing false m e = refl
-
-pub number-told : (s : List ℕ) (n : ℕ) → number_for s ≡ digits_read.Number n → (all_digits s ≡ true) × (n ≡ value_of s)
+pub number-told : (s : List ℕ) (n : ℕ) → number_for s ≡ Some n → (all_digits s ≡ true) × (n ≡ value_of s)
 unfolding number_for
 number-told s n e =
     let i = picked-number (leb (length s) 8 && all_digits s) (value_of s) n e in
     (and_right (leb (length s) 8) (all_digits s) i.0, i.1)
-
-pub number-nothing : (s : List ℕ) → length s ≤ 8 → (d : Digits) → d ≡ number_for s → d ≡ digits_read.Nothing → all_digits s ≡ false
-number-nothing s h d e z = picked-nothing (all_digits s) (value_of s) (sym (number-form s h) ∙ sym e ∙ z)

@@ -1,18 +1,19 @@
 -- Laws of bytes written into a buffer one behind the other, and one law for each step of the code that writes them. A step's premises
 -- have the form that the code's facts have, so that `search` finds them. Assumes nothing.
 use mathlib.Core.Path.{◌≡◌, refl, ap, sym, ◌∙◌}
-use mathlib.Core.List.{List, [], ◌++◌, append-nil}
+use mathlib.Core.List.{List, [], ◌++◌}
 use mathlib.Core.Logic.{⊎_elim}
 use Prim.Native.Nat.{ℕ, zero, suc, ◌+◌, ◌-◌, ◌/◌, ◌%◌, ◌≤◌, ◌<◌}
-use native.Mathlib.Numerals.{add-one}
 use native.Mathlib.Omega.{arith}
-use lib.ListN.{length, take, drop, get_or, set, length-append, length-drop, length-take}
-use lib.Seq.{drop-length, length-take-le, take_all, take-suc}
+use lib.ListN.{length, take, drop, set, length-append, length-drop, length-take}
+use lib.Seq.{length-take-le}
 use borrow.Rule.Slice.PartMut.{put_mid}
-use borrow.Author.Tests.{le-leb, lt-leb, le-ltb, lt-ltb}
+use borrow.Author.Tests.{le-leb, leb-true, lt-leb, le-ltb, lt-ltb}
+use lib.Dec.{leb}
+use mathlib.Core.Bool.{true, false}
 use Rattle.base.specs.Lists.{over, over_at}
 use Rattle.base.proofs.Tests.{below_or_not}
-use Rattle.base.proofs.Lists.{over-take, over_at-none, over_at_start, over_at-length, over_at-append, over_at-put, over_at_part, fill_before}
+use Rattle.base.proofs.Lists.{over-take, over_at-none, over_at_start, over_at-length, over_at-append, over_at_part, fill_before}
 use Rattle.text.specs.Word.{digits, width_in, decimal}
 use Rattle.text.specs.Written.{written_at, written_first}
 use Rattle.text.proofs.Words.{digits-length}
@@ -47,19 +48,10 @@ room-written at n xs o o₁ h e =
     let f : ◌≡◌ {A = ℕ × List ℕ} (n, o₁) (at + length xs, over_at at xs o) = simp (le-leb _ _ h) at e in
     (ap (λ (p : ℕ × List ℕ). p.0) f, ap (λ (p : ℕ × List ℕ). p.1) f)
 
--- no room: the place lies behind the end, or before it, and the k bytes do not fit
-module _ (at : ℕ) (xs o : List ℕ) where
-  no_room : length o < at + length xs → (at, o) ≡ written_at at xs o
-  unfolding written_at
-  no_room h = simp (lt-leb _ _ h)
-
-  pub none_beyond : length o < at → (at, o) ≡ written_at at xs o
-  none_beyond h = no_room (omega arith)
-
-  pub none-short : (k : ℕ) → at ≤ length o → length o - at < k → length xs ≡ k → (at, o) ≡ written_at at xs o
-  none-short k h l e = no_room (omega arith)
-
-pub ruleset none_written = (none_beyond, none-short)
+-- no room for their k bytes
+pub none_written : (at k : ℕ) (xs o : List ℕ) → length xs ≡ k → false ≡ leb (at + k) (length o) → (at, o) ≡ written_at at xs o
+unfolding written_at
+none_written at k xs o l h = simp (l, sym h)
 
 -- two writers one behind the other
 pub joined : (at n m : ℕ) (xs ys o o₁ o₂ : List ℕ) → Laid at xs o n o₁ → Laid n ys o₁ m o₂ → Laid at (xs ++ ys) o m o₂
@@ -80,22 +72,7 @@ pub both_written : (at n m k : ℕ) (xs ys o o₁ o₂ : List ℕ) → length ys
 both_written at n m k xs ys o o₁ o₂ l h a b =
     behind_written at n m k xs ys o o₁ o₂ l h (room-written at n xs o o₁ (omega arith) a) b
 
--- ---- the loop of `put_word`
-pub word_again : (w o o₁ : List ℕ) (at i : ℕ) → i < length w → at ≤ length o → length w ≤ length o - at → o₁ ≡ over_at at (take i w) o
-    → set o₁ (at + i) (get_or w i 0) ≡ over_at at (take (i + 1) w) o
-word_again w o o₁ at i h k l e =
-    ap (λ (y : List ℕ). set y (at + i) (get_or w i 0)) e
-    ∙ over_at-put at (at + i) (get_or w i 0) (take i w) o (omega (arith, length-take-le i w (omega arith))) (omega arith)
-    ∙ ap (λ (y : List ℕ). over_at at y o) (sym (take-suc w i 0 h) ∙ ap (λ (k : ℕ). take k w) (sym (add-one i)))
-
-pub word-done : (w o o₁ : List ℕ) (at i : ℕ) → at ≤ length o → length w ≤ length o - at → length w ≤ i → o₁ ≡ over_at at (take i w) o
-    → (at + length w, o₁) ≡ written_at at w o
-word-done w o o₁ at i h l d e = written-room at (at + length w) w o o₁ (omega arith) (refl, e ∙ ap (λ (y : List ℕ). over_at at y o) (take_all i w d))
-
--- the loop of `fill_digits`: the digits that are left to write, and those that are written
-pub digits_begun : (o : List ℕ) (n : ℕ) → digits (length o) n ++ drop (length o) o ≡ digits (length o) n
-digits_begun o n = ap (λ (y : List ℕ). digits (length o) n ++ y) (drop-length o) ∙ append-nil (digits (length o) n)
-
+-- ---- the loop of `fill_digits`: the digits that are left to write, and those that are written
 pub digits_again : (left rest : ℕ) (o whole : List ℕ) → 0 < left → left ≤ length o → digits left rest ++ drop left o ≡ whole
     → digits (left - 1) (rest / 10) ++ drop (left - 1) (set o (left - 1) (0x30 + rest % 10)) ≡ whole
 unfolding digits
@@ -109,16 +86,21 @@ unfolding digits
 digits-done zero rest o whole h e = e
 digits-done (suc l) rest o whole h e = absurd (omega arith)
 
--- ---- `put_digits`: the lent part from the place on
-pub digits_part : (at w n : ℕ) (o ys : List ℕ) → at ≤ length o → w ≤ length o - at → ys ≡ digits (length (take (at + w - at) (drop at o))) n
-    → (at + w, put_mid at (at + w - at) o ys) ≡ written_at at (digits w n) o
-digits_part at w n o ys h k e =
-    let d : length (digits w n) ≡ w = digits-length w n in
+-- ---- the lent part from the place on, in which `put_word` and `put_digits` write
+pub part_written : (at w : ℕ) (xs o ys : List ℕ) → true ≡ leb (at + w) (length o) → length xs ≡ w → ys ≡ xs
+    → (at + w, put_mid at (at + w - at) o ys) ≡ written_at at xs o
+part_written at w xs o ys h l e =
     let i : at + w - at ≡ w = omega arith in
+    let f : at + w ≤ length o = leb-true (at + w) (length o) (sym h) in
+    written-room at (at + w) xs o (put_mid at (at + w - at) o ys) (omega arith)
+    (omega arith, over_at_part at (at + w - at) ys o (ap length e ∙ l ∙ sym i) ∙ ap (λ (z : List ℕ). over_at at z o) e)
+
+pub digits_part : (at w n : ℕ) (o ys : List ℕ) → true ≡ leb (at + w) (length o) → ys ≡ digits (length (take (at + w - at) (drop at o))) n
+    → (at + w, put_mid at (at + w - at) o ys) ≡ written_at at (digits w n) o
+digits_part at w n o ys h e =
+    let f : at + w ≤ length o = leb-true (at + w) (length o) (sym h) in
     let l : length (take (at + w - at) (drop at o)) ≡ w = simp (length-take, length-drop) (omega arith) in
-    let y : ys ≡ digits w n = e ∙ ap (λ (m : ℕ). digits m n) l in
-    written-room at (at + w) (digits w n) o (put_mid at (at + w - at) o ys) (omega arith)
-    (omega arith, over_at_part at (at + w - at) ys o (ap length y ∙ d ∙ sym i) ∙ ap (λ (z : List ℕ). over_at at z o) y)
+    part_written at w (digits w n) o ys h (digits-length w n) (e ∙ ap (λ (m : ℕ). digits m n) l)
 
 -- ---- `put_decimal`
 pub decimal-written : (at w n r : ℕ) (o o₁ : List ℕ) → w ≡ width_in 19 n → (r, o₁) ≡ written_at at (digits w n) o → (r, o₁) ≡ written_at at (decimal n) o
@@ -155,7 +137,7 @@ width_again w rest whole h k e =
     let f : width_in (20 - w) rest ≡ suc (width_in (20 - (w + 1)) (rest / 10)) = ap (λ (m : ℕ). width_in m rest) i ∙ width_more (20 - (w + 1)) rest k in
     omega arith
 
-pub width_full : (w rest whole : ℕ) → 20 ≤ w → w + width_in (20 - w) rest ≡ 1 + whole → w ≡ whole
+pub width_full : (w rest whole : ℕ) → w ≡ 20 → w + width_in (20 - w) rest ≡ 1 + whole → 20 ≡ whole
 width_full w rest whole h e =
     let i : 20 - w ≡ 0 = omega arith in
     let f : width_in (20 - w) rest ≡ 1 = ap (λ (m : ℕ). width_in m rest) i ∙ width_none rest in

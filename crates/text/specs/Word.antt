@@ -1,8 +1,6 @@
 -- Numbers and words in a text.
-use Rattle.std.specs.Prelude.{ℕ, zero, suc, ◌+◌, ◌-◌, ◌*◌, ◌/◌, ◌%◌, Bool, true, false, ◌&&◌, ◌||◌, List, [], ◌∷◌, ◌++◌, eqb, leb, ltb, length}
+use Rattle.std.specs.Prelude.{ℕ, zero, suc, ◌+◌, ◌-◌, ◌*◌, ◌/◌, ◌%◌, Bool, true, false, ◌&&◌, ◌||◌, Option, Some, None, List, [], ◌∷◌, ◌++◌, eqb, leb, ltb, length}
 use Rattle.base.specs.Test.{pick, all_between}
-use Rattle.text.specs.declared.Digits.{Digits}
-use Rattle.text.specs.declared.Digits.TheVariants as digits_read
 
 abbrev pub space : ℕ
 space = 0x20
@@ -39,8 +37,8 @@ abbrev pub value_of : List ℕ → ℕ
 value_of xs = value_from 0 xs
 
 -- the number that up to eight digits are
-unfoldable pub number_for : List ℕ → Digits
-number_for xs = pick (leb (length xs) 8 && all_digits xs) (digits_read.Number (value_of xs)) digits_read.Nothing
+unfoldable pub number_for : List ℕ → Option ℕ
+number_for xs = pick (leb (length xs) 8 && all_digits xs) (Some (value_of xs)) None
 
 -- ---- byte strings
 

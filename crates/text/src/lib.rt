@@ -1,18 +1,9 @@
 // Words and numbers in a text, read and written.
 #![tactic(auto)]
 
-ghost use Rattle.std.specs.Prelude.{◌≡◌, true, ◌≤◌, length, take, drop};
+ghost use Rattle.std.specs.Prelude.{◌≡◌, ◌+◌, true, ◌≤◌, leb, length, take, drop};
 ghost use Rattle.text.specs.Word.{digits, width_in, decimal, all_digits, value_of, number_for, equal};
 ghost use Rattle.text.specs.Written.{written_at};
-
-use base::wide;
-
-// The number that up to eight digits are, that of none being 0; or nothing for any other text.
-#[derive(Clone, Copy)]
-pub enum Digits {
-    Number(u32),
-    Nothing,
-}
 
 // A number has at most 20 digits.
 const MOST_DIGITS: usize = 20;
@@ -31,43 +22,28 @@ fn value(s: &[u8]) -> u32
     requires { (length s.now ≤ 8) × (all_digits s.now ≡ true) }
     ensures { result ≡ value_of s.now }
 {
-    let mut n: u32 = 0;
-    let mut i = 0;
-    while i < s.len() {
-        n = n * 10 + (wide(s[i]) - 0x30);
-        i += 1;
+    let mut n = 0;
+    for digit in s {
+        n = n * 10 + (u32::from(*digit) - 0x30);
     }
     n
 }
 
-// Up to eight digits as a number; no digits are 0.
-pub fn read_number(s: &[u8]) -> Digits
+// The number that up to eight digits are, that of none being 0; nothing for any other text.
+pub fn read_number(s: &[u8]) -> Option<u32>
     ensures { result ≡ number_for s.now }
 {
-    if 8 < s.len() {
-        return Digits::Nothing;
+    if 8 < s.len() || !all_digits(s) {
+        return None;
     }
-    if !all_digits(s) {
-        return Digits::Nothing;
-    }
-    Digits::Number(value(s))
+    Some(value(s))
 }
 
 // The bytes are the word.
 pub fn is_word(s: &[u8], word: &[u8]) -> bool
     ensures { result ≡ equal s.now word.now }
 {
-    if s.len() != word.len() {
-        return false;
-    }
-    let mut i = 0;
-    while i < s.len() {
-        if s[i] != word[i] {
-            return false;
-        }
-        i += 1;
-    }
-    true
+    s == word
 }
 
 // The word stands at a place.
@@ -75,33 +51,31 @@ pub fn word_at(s: &[u8], at: usize, word: &[u8]) -> bool
     ensures { result ≡ equal (take (length word.now) (drop at s.now)) word.now }
 {
     if s.len() < at {
-        return word.len() == 0;
+        return word.is_empty();
     }
-    if s.len() - at < word.len() {
-        return false;
-    }
-    let end = at + word.len();
-    is_word(&s[at..end], word)
+    s[at..].starts_with(word)
 }
 
 // ---- writing: each writer gives the place behind what it wrote; where that does not fit it writes nothing and gives the place itself
+// The place goes beside the buffer: a writer that held the buffer would have to promise each time that it still holds the same one.
+
+// Out has room for n bytes from a place on.
+fn fits(at: usize, n: usize, out: &[u8]) -> bool
+    ensures { result ≡ leb (at + n) (length out.now) }
+{
+    at <= out.len() && n <= out.len() - at
+}
 
 // Copies a word to a place of out.
 pub fn put_word(word: &[u8], at: usize, out: &mut [u8]) -> usize
     ensures { (result, out.new) ≡ written_at at word.now out.old }
 {
-    if out.len() < at {
+    if !fits(at, word.len(), out) {
         return at;
     }
-    if out.len() - at < word.len() {
-        return at;
-    }
-    let mut i = 0;
-    while i < word.len() {
-        out[at + i] = word[i];
-        i += 1;
-    }
-    at + word.len()
+    let end = at + word.len();
+    out[at..end].copy_from_slice(word);
+    end
 }
 
 // Fills all of out with the last decimal digits of a number.
@@ -109,11 +83,9 @@ fn fill_digits(n: u64, out: &mut [u8])
     ensures { out.new ≡ digits (length out.old) n }
 {
     let mut rest = n;
-    let mut left = out.len();
-    while 0 < left {
-        left -= 1;
-        out[left] = (0x30 + rest % 10) as u8;
-        rest = rest / 10;
+    for i in (0..out.len()).rev() {
+        out[i] = b'0' + (rest % 10) as u8;
+        rest /= 10;
     }
 }
 
@@ -121,10 +93,7 @@ fn fill_digits(n: u64, out: &mut [u8])
 pub fn put_digits(n: u64, width: usize, at: usize, out: &mut [u8]) -> usize
     ensures { (result, out.new) ≡ written_at at (digits width n) out.old }
 {
-    if out.len() < at {
-        return at;
-    }
-    if out.len() - at < width {
+    if !fits(at, width, out) {
         return at;
     }
     let end = at + width;
@@ -137,12 +106,13 @@ fn width_of(n: u64) -> usize
     ensures { result ≡ width_in 19 n }
 {
     let mut rest = n;
-    let mut width = 1;
-    while width < MOST_DIGITS && 10 <= rest {
-        rest = rest / 10;
-        width += 1;
+    for width in 1..MOST_DIGITS {
+        if rest < 10 {
+            return width;
+        }
+        rest /= 10;
     }
-    width
+    MOST_DIGITS
 }
 
 // Writes a number with no leading zero to a place of out.

@@ -1,5 +1,5 @@
 -- Document 02, L8: week totals, "to the last digit".
-use Rattle.std.specs.Prelude.{ℕ, zero, suc, ◌+◌, ◌*◌, Bool, true, false, ◌&&◌, List, [], ◌∷◌, eqb, leb, length, replicate}
+use Rattle.std.specs.Prelude.{ℕ, zero, suc, ◌+◌, ◌*◌, Bool, true, false, ◌&&◌, List, [], ◌∷◌, eqb, leb, length, replicate, Result, Ok, Err}
 use Rattle.base.specs.Test.{pick, unless}
 use Rattle.base.specs.Lists.{over}
 use Rattle.state.specs.declared.ParameterKind.TheVariants.{Factor}
@@ -8,8 +8,6 @@ use Rattle.state.specs.Field.{recipe, raw, field_range}
 use Rattle.state.specs.Valid.{within}
 use Rattle.totalling.specs.declared.Refusal.{Refusal}
 use Rattle.totalling.specs.declared.Refusal.TheVariants as refusal
-use Rattle.totalling.specs.declared.Answer.{Answer}
-use Rattle.totalling.specs.declared.Answer.TheVariants as answer
 use Rattle.totalling.specs.declared.Totals.{Totals}
 
 -- ---- "Over a lent list of raw volumes, one of factors and one of recipes": what stands at one place of the three is a batch's
@@ -113,9 +111,6 @@ refusal_number refusal.UnequalLengths = 1
 refusal_number refusal.TooMany = 2
 refusal_number refusal.OutOfRange = 3
 
-abbrev pub answer_number : Answer → ℕ
-answer_number answer.Whole = 0
-answer_number (answer.Refused why) = refusal_number why
-
-abbrev pub totals_as : Totals → Outcome
-totals_as t = outcome (answer_number t.answer) t.sums t.counts
+abbrev pub totals_as : Result Totals Refusal → Outcome
+totals_as (Ok t) = outcome 0 t.sums t.counts
+totals_as (Err why) = refused_by (refusal_number why)

@@ -11,6 +11,7 @@ fn main(rt: HostRuntime) -> io::Result<()> {
     let mut stored = [0; ROOM];
     let length = input::read_full(&mut rt.stdin(), &mut stored)?;
     let mut text = [0; sheet::ROOM];
-    let printed = week::write(&stored[..length], &mut text);
-    rt.stdout().write_all(&text[..printed.written])
+    // there is room for any
+    let written = week::write(&stored[..length], &mut text).written.unwrap();
+    rt.stdout().write_all(&text[..written])
 }

@@ -1,5 +1,5 @@
 -- Document 02, L8: "One program reads a stored bank on standard input and prints a line per recipe that occurs".
-use Rattle.std.specs.Prelude.{ℕ, List, ◌++◌, map}
+use Rattle.std.specs.Prelude.{ℕ, List, ◌++◌, map, Result, Ok, Err}
 use Rattle.base.specs.Text.{text}
 use Rattle.text.specs.Word.{newline, decimal}
 use Rattle.text.specs.Written.{written_first}
@@ -7,10 +7,11 @@ use Rattle.bank.specs.declared.Batch.{Batch}
 use Rattle.bank.specs.declared.Bank.{Bank}
 use Rattle.bank.specs.Bank.{batches_in}
 use Rattle.storedbank.specs.StoredBank as stored
-use Rattle.storedbank.specs.StoredBank.{K, done, answer_as, read_of}
-use Rattle.totalling.specs.Totals.{Outcome, totals_of, totals_as}
+use Rattle.storedbank.specs.StoredBank.{K, done, read_of}
+use Rattle.storedbank.specs.declared.Refused.{Refused}
+use Rattle.totalling.specs.Totals.{Outcome, outcome, zeros, totals_of}
+use Rattle.totalling.specs.declared.Totals.{Totals}
 use Rattle.sheet.specs.Sheet.{sheet_text, room}
-use Rattle.week.specs.declared.Week.{Week}
 
 -- the lists of some batches
 abbrev pub raws_of : List Batch → List ℕ
@@ -33,8 +34,13 @@ bank_totals k = batch_totals (batches_in k)
 unfoldable pub week_of : List ℕ → stored.Outcome × Outcome
 week_of bs = ((read_of bs).0, bank_totals (read_of bs).1)
 
-abbrev pub week_as : Week → stored.Outcome × Outcome
-week_as w = (answer_as w.answer, totals_as w.totals)
+abbrev pub week_as : Result Totals Refused → stored.Outcome × Outcome
+week_as (Ok t) = (done, outcome 0 t.sums t.counts)
+week_as (Err e) = (K 7, outcome 0 zeros zeros)
+
+abbrev pub answer_as : Result (Unit {0}) Refused → stored.Outcome
+answer_as (Ok u) = done
+answer_as (Err e) = K 7
 
 -- what the program prints: "An empty bank prints nothing, a bad one `refused K7`."
 unfoldable pub printed : stored.Outcome × Outcome → List ℕ

@@ -1,32 +1,26 @@
--- `board::call` meets its contract: the whole list is seen, and the call's answer is for the place that was found. Assumes nothing.
-use Rattle.std.proofs.Common.{refl, rules, arith, ◌∙◌, ◌<◌, ◌≤◌}
-use borrow.Author.Tests.{lt-ltb, le-ltb}
-use Rattle.board.proofs.Search.{no_record, same_count, none_yet, one_more, nowhere_so, called_so}
+-- `board::call` meets its contract: by the list's refusal, and by the place where the request goes. Assumes nothing.
+use native.Mathlib.Omega.{arith}
+use Rattle.board.proofs.Search.{no_record, refused_so, nowhere_so, called_so, inside, few}
+use borrow.Author.Rules.{rules}
 use Rattle.board.proofs.call.Goals as goal
-use Rattle.board.proofs.call.Goals.{After-loop-i}
 
--- behind the loop the whole list was seen
-seen_whole : (c : After-loop-i) → c.loop-i.seen.count ≤ c.loop-i.i
-seen_whole c = let same = c.loop-i.invariant.0 in omega arith
+pub returns-in_err-check : goal.returns-in_err-check
+returns-in_err-check c = search (refused_so, rules)
 
-pub loop-i-init : goal.loop-i-init
-loop-i-init c = (refl, none_yet _ no_record _ c.none_seen-seen.ensures)
+pub offset_bounds-records-at : goal.offset_bounds-records-at
+offset_bounds-records-at c = omega (arith, few _ c.in_ok-check.ensures, inside _ _ _ _ _ c.find.ensures _ c.in-Ok.is)
 
-pub loop-i-preserved : goal.loop-i-preserved
-loop-i-preserved c =
-    let more = one_more _ no_record _ _ _ c.loop-i.invariant.1 (search rules) c.with-seen.ensures in
-    (c.loop-i.invariant.0 ∙ same_count _ _ _ _ _ _ c.loop-i.invariant.1 more, more)
+pub slice_copy_out-call : goal.slice_copy_out-call
+slice_copy_out-call c = inside _ _ _ _ _ c.find.ensures _ c.in-Ok.is
 
-pub returns-then-at-n : goal.returns-then-at-n
-returns-then-at-n c =
-    let same = c.loop-i.invariant.0 in
-    let whole = seen_whole (goal.at.returns-then-at-n c).After-loop-i in
-    let found : c.find-found.result.at < c.loop-i.seen.count = omega arith in
-    called_so _ _ _ no_record _ _ _ c.loop-i.invariant.1 whole _ c.find-found.ensures (lt-ltb _ _ found) _ _ c.serve-served.ensures
+pub offset_bounds-records-at-in-Ok : goal.offset_bounds-records-at-in-Ok
+offset_bounds-records-at-in-Ok c = omega (arith, few _ c.in_ok-check.ensures, inside _ _ _ _ _ c.find.ensures _ c.in-Ok.is)
 
-pub returns : goal.returns
-returns c =
-    let same = c.loop-i.invariant.0 in
-    let whole = seen_whole (goal.at.returns c).After-loop-i in
-    let nowhere : c.loop-i.seen.count ≤ c.find-found.result.at = omega arith in
-    nowhere_so _ _ _ no_record _ _ _ c.loop-i.invariant.1 whole _ c.find-found.ensures (le-ltb _ _ nowhere)
+pub bounds-records-at : goal.bounds-records-at
+bounds-records-at c = inside _ _ _ _ _ c.find.ensures _ c.in-Ok.is
+
+pub returns-in-Ok : goal.returns-in-Ok
+returns-in-Ok c = called_so _ _ _ no_record _ c.in_ok-check.ensures _ c.find.ensures _ c.in-Ok.is _ _ _ c.call-called.ensures
+
+pub returns-in-Err : goal.returns-in-Err
+returns-in-Err c = nowhere_so _ _ _ no_record _ c.in_ok-check.ensures _ c.find.ensures _ c.in-Err.is

@@ -1,17 +1,15 @@
--- `controller::call` meets its contract: one law for the silences, and one for the answer. Assumes nothing.
-use native.Mathlib.Omega.{arith}
-use Rattle.controller.proofs.Hearing.{text-within}
-use Rattle.controller.proofs.Steps.{calling}
+-- `controller::call` meets its contract: one law for the silences, and one for a reply with an effect and without. Assumes nothing.
+use Rattle.std.proofs.Common.{rules}
+use Rattle.controller.proofs.Steps.{silent_call, changed_call, unchanged_call}
 use Rattle.controller.proofs.call.Goals as goal
+use Rattle.controller.proofs.call.Goals.{in-Some, in_default}
 
-pub overflow_add-end : goal.overflow_add-end
-overflow_add-end c = omega (arith, text-within _ _ _ _ _ _ _ c.hear.ensures c.in-Text.is)
+pub returns-in-Err : goal.returns-in-Err
+returns-in-Err g c = search (silent_call g.met.H.Held.laws)
 
-pub slice_bounds-reply_to-end : goal.slice_bounds-reply_to-end
-slice_bounds-reply_to-end c = omega (arith, text-within _ _ _ _ _ _ _ c.hear.ensures c.in-Text.is)
-
-pub returns-in-Silent : goal.returns-in-Silent
-returns-in-Silent c = search calling
-
-pub returns-in-Text : goal.returns-in-Text
-returns-in-Text c = search calling
+pub returns-after-replied : goal.returns-after-replied
+returns-after-replied g c =
+    elim c.match-replied.branch [
+      | in-Some w ↦ rw w.held-is (search (changed_call g.met.H.Held.laws))
+      | in_default w ↦ rw w.held-is (search (unchanged_call g.met.H.Held.laws, rules))
+    ]

@@ -1,14 +1,10 @@
--- `crc::check` meets its contract. The loop's invariant: the check of what is left, from what was gathered, is the whole one. Assumes
--- nothing.
-use borrow.Author.Rules.{rules}
-use Rattle.crc.proofs.Steps.{check_begun, check_again, check_done}
+-- The loop over the bytes is the fold that the definition is. Assumes nothing.
+use Rattle.std.proofs.Common.{rules, ◌≡◌, fold, bit_xor, ◌∙◌}
+use Rattle.crc.specs.Crc.{shifted_times}
+use Rattle.crc.proofs.Steps.{folded}
 use Rattle.crc.proofs.check.Goals as goal
 
-pub loop-i-init : goal.loop-i-init
-loop-i-init c = (search rules, check_begun _)
-
-pub loop-i-preserved : goal.loop-i-preserved
-loop-i-preserved c = (search rules, search check_again)
-
 pub returns : goal.returns
-returns c = search check_done
+returns c =
+    let e : c.fold.result ≡ fold (λ r x. shifted_times 8 (bit_xor r x)) 0xffff c.args.s.now = search rules in
+    e ∙ folded c.args.s.now

@@ -5,7 +5,7 @@ use Rattle.drum.proofs.Laws.{text-short, text_built}
 use Rattle.drum.proofs.build.Goals as goal
 
 pub slice_bounds-text-end : goal.slice_bounds-text-end
-slice_bounds-text-end c = let h = text-short _ _ _ _ _ (search rules) c.put_text-n.ensures in search rules
+slice_bounds-text-end c = let h = text-short _ c.args.m _ _ _ (search rules) c.put_text-n.ensures in search rules
 
 pub slice_bounds-build-end : goal.slice_bounds-build-end
 slice_bounds-build-end c = laid-count _ _ _ _ c.put_text-n.ensures

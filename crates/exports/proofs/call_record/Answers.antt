@@ -1,12 +1,15 @@
 -- `exports::call_record` meets its contract: a silence leaves all as it was; the record after a reply is valid, and its form takes the place of the one that was read. Assumes nothing.
-use Rattle.exports.proofs.Steps.{reply-fits, calling}
+use Rattle.exports.proofs.Steps.{calling}
 use Rattle.exports.proofs.call_record.Goals as goal
 
+pub unwrap-requires : goal.unwrap-requires
+unwrap-requires c = search calling
+
 pub overflow_cast-result : goal.overflow_cast-result
-overflow_cast-result c = record { fits = search reply-fits }
+overflow_cast-result c = record { fits = search calling }
 
-pub returns-in-Silent : goal.returns-in-Silent
-returns-in-Silent c = search calling
+pub returns-in-Err : goal.returns-in-Err
+returns-in-Err c = search calling
 
-pub returns-in-Reply : goal.returns-in-Reply
-returns-in-Reply c = search calling
+pub returns-in-Ok : goal.returns-in-Ok
+returns-in-Ok c = search calling

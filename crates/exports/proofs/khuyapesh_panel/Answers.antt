@@ -2,11 +2,14 @@
 use Rattle.exports.proofs.Steps.{happening}
 use Rattle.exports.proofs.khuyapesh_panel.Goals as goal
 
-pub returns-then-event-gt-LAST_EVENT : goal.returns-then-event-gt-LAST_EVENT
-returns-then-event-gt-LAST_EVENT c = search happening
-
-pub returns-then-answer-ne0 : goal.returns-then-answer-ne0
-returns-then-answer-ne0 c = search happening
+pub unwrap-requires : goal.unwrap-requires
+unwrap-requires c = search happening
 
 pub returns : goal.returns
 returns c = search happening
+
+pub returns-in_default : goal.returns-in_default
+returns-in_default c = search happening
+
+pub returns-in-Err : goal.returns-in-Err
+returns-in-Err c = search happening

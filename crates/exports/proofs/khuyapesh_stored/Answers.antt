@@ -2,8 +2,17 @@
 use Rattle.exports.proofs.Steps.{storing}
 use Rattle.exports.proofs.khuyapesh_stored.Goals as goal
 
+pub unwrap-requires : goal.unwrap-requires
+unwrap-requires c = search storing
+
+pub unwrap-requires-in-Err : goal.unwrap-requires-in-Err
+unwrap-requires-in-Err c = search storing
+
+pub returns-in-Ok : goal.returns-in-Ok
+returns-in-Ok c = search storing
+
+pub returns-in-Err : goal.returns-in-Err
+returns-in-Err c = search storing
+
 pub returns-then-out-lt-STORED_LENGTH : goal.returns-then-out-lt-STORED_LENGTH
 returns-then-out-lt-STORED_LENGTH c = search storing
-
-pub returns : goal.returns
-returns c = search storing

@@ -1,13 +1,12 @@
--- `exports::khuyapesh_units` meets its contract: one law for a short buffer, and one for what is written. Assumes nothing.
-use Rattle.exports.proofs.Totals.{units-short, units-written, units_fit}
-use borrow.Author.Rules.{rules}
+-- `exports::khuyapesh_units` meets its contract: one law for a short buffer, and two for what is written. Assumes nothing.
+use Rattle.exports.proofs.Totals.{units_writing}
 use Rattle.exports.proofs.khuyapesh_units.Goals as goal
 
-pub returns-then-out-lt-LINE_ROOM : goal.returns-then-out-lt-LINE_ROOM
-returns-then-out-lt-LINE_ROOM c = search units-short
+pub returns-in_default : goal.returns-in_default
+returns-in_default c = search units_writing
 
 pub overflow_cast-result : goal.overflow_cast-result
-overflow_cast-result c = search (units_fit, rules)
+overflow_cast-result c = record { fits = search units_writing }
 
 pub returns : goal.returns
-returns c = search units-written
+returns c = search units_writing

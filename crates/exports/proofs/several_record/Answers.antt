@@ -2,8 +2,11 @@
 use Rattle.exports.proofs.Steps.{hearing}
 use Rattle.exports.proofs.several_record.Goals as goal
 
-pub returns-in-Silent : goal.returns-in-Silent
-returns-in-Silent c = search hearing
+pub unwrap-requires : goal.unwrap-requires
+unwrap-requires c = search hearing
 
-pub returns-in-Served : goal.returns-in-Served
-returns-in-Served c = search hearing
+pub returns-in-Err : goal.returns-in-Err
+returns-in-Err c = search hearing
+
+pub returns-in-Ok : goal.returns-in-Ok
+returns-in-Ok c = search hearing

@@ -1,19 +1,8 @@
--- `frame::build` meets its contract, one law of `Steps` for each return: the text, laid into the part from the second byte
--- on, is what `close` then finds there. Assumes nothing.
-use Rattle.frame.proofs.Steps.{building}
+-- `frame::build` meets its contract: the text, laid behind the first byte, is what `close` then finds there. Assumes nothing.
+use Rattle.std.proofs.Common.{rules}
+use Rattle.frame.proofs.Steps.{built_laid}
 use Rattle.frame.proofs.build.Goals as goal
 
-pub returns-then-out-lt-ROOM : goal.returns-then-out-lt-ROOM
-returns-then-out-lt-ROOM c = search building
-
-pub returns-then-n-lt4 : goal.returns-then-n-lt4
-returns-then-n-lt4 c = search building
-
-pub returns-then-n-gt-LONGEST_TEXT : goal.returns-then-n-gt-LONGEST_TEXT
-returns-then-n-gt-LONGEST_TEXT c = search building
-
-pub returns-then-not-printable : goal.returns-then-not-printable
-returns-then-not-printable c = search building
-
 pub returns : goal.returns
-returns c = search building
+returns c =
+    built_laid _ _ _ _ _ _ c.if-out-lt-ROOM.false (search rules) c.if-not-printable.ensures c.copy_from_slice.ensures.after c.close.ensures

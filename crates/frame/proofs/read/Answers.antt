@@ -1,29 +1,13 @@
--- `frame::read` meets its contract, one law of `Steps` for each return: a frame that is located has its text within it.
--- Assumes nothing.
-use native.Mathlib.Omega.{arith}
-use lib.ListN.{length-take, length-drop}
-use Rattle.frame.proofs.Laws.{Sizes}
-use Rattle.frame.proofs.Steps.{reading, located_sizes}
+-- `frame::read` meets its contract: a frame that is located has its text within it. Assumes nothing.
+use Rattle.std.proofs.Common.{arith, length-take, length-drop}
+use Rattle.frame.proofs.Steps.{read_text, located_sizes}
 use Rattle.frame.proofs.read.Goals as goal
-use Rattle.frame.proofs.read.Goals.{In-Text}
 
-sizes : (c : In-Text) → Sizes c.args.frame.now c.in-Text.n
-sizes c = search located_sizes
+pub slice_bounds-copy_from_slice-end-2 : goal.slice_bounds-copy_from_slice-end-2
+slice_bounds-copy_from_slice-end-2 c = let h = located_sizes _ _ _ c.in_ok-n.ensures in simp length-take (omega arith)
 
-pub returns-then-out-lt-ROOM : goal.returns-then-out-lt-ROOM
-returns-then-out-lt-ROOM c = search reading
+pub copy_from_slice-requires : goal.copy_from_slice-requires
+copy_from_slice-requires c = let h = located_sizes _ _ _ c.in_ok-n.ensures in simp (length-take, length-drop) (omega arith)
 
-pub overflow_add-end : goal.overflow_add-end
-overflow_add-end c = omega (arith, sizes (goal.at.overflow_add-end c).In-Text)
-
-pub slice_bounds-lay-end : goal.slice_bounds-lay-end
-slice_bounds-lay-end c = omega (arith, sizes (goal.at.slice_bounds-lay-end c).In-Text)
-
-pub lay-requires : goal.lay-requires
-lay-requires c = let h = sizes (goal.at.lay-requires c).In-Text in simp (length-take, length-drop) (omega arith)
-
-pub returns-in-Silent : goal.returns-in-Silent
-returns-in-Silent c = search reading
-
-pub returns-in-Text : goal.returns-in-Text
-returns-in-Text c = search reading
+pub returns : goal.returns
+returns c = read_text _ _ _ c.in_ok-n.ensures _ _ c.if-out-lt-ROOM.false c.copy_from_slice.ensures.after

@@ -3,8 +3,8 @@ use Rattle.hearing.proofs.Steps.{digits_inside, replying}
 use borrow.Author.Rules.{rules}
 use Rattle.hearing.proofs.replied.Goals as goal
 
-pub returns-then-reply-eq0 : goal.returns-then-reply-eq0
-returns-then-reply-eq0 c = search replying
+pub returns-then-is_empty : goal.returns-then-is_empty
+returns-then-is_empty c = search replying
 
 pub returns-in_default : goal.returns-in_default
 returns-in_default c = search replying

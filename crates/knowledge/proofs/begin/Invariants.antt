@@ -1,13 +1,8 @@
 -- `begin` meets its contract. The invariant: the fields of the first i parameters have their codes, and in all others any number is
 -- possible. Assumes nothing.
-use Prim.Native.Nat.{◌-◌, ◌≤◌}
 use mathlib.Core.Path.{◌≡◌}
-use Rattle.state.specs.Parameter.{parameter_count}
 use Rattle.knowledge.proofs.Steps.{begun}
 use Rattle.knowledge.proofs.begin.Given as goal
 
 abbrev pub invariant-loop-i : goal.invariant-loop-i
-invariant-loop-i l = (l.i ≤ parameter_count) × (l.codes ≡ begun l.address l.access l.i)
-
-abbrev pub decreases-loop-i : goal.decreases-loop-i
-decreases-loop-i l = parameter_count - l.i
+invariant-loop-i l = l.codes ≡ begun l.address l.access l.i

@@ -1,14 +1,6 @@
--- `lay` meets its contract. The loop's invariant: the first i codes are laid, the others as they were. Assumes nothing.
-use lib.ListN.{length-set}
-use Rattle.knowledge.proofs.Steps.{laying}
-use borrow.Author.Rules.{rules}
+-- `lay` meets its contract: the part that is written is as long as the codes. Assumes nothing.
+use Rattle.std.proofs.Common.{◌≡◌, ℕ, length, rules, arith, length-take}
 use Rattle.knowledge.proofs.lay.Goals as goal
 
-pub returns-then-out-lt-FIELDS : goal.returns-then-out-lt-FIELDS
-returns-then-out-lt-FIELDS c = search laying
-
-pub loop-i-preserved : goal.loop-i-preserved
-loop-i-preserved c = (search rules, (simp length-set (search rules), search laying))
-
-pub returns : goal.returns
-returns c = search laying
+pub copy_from_slice-requires : goal.copy_from_slice-requires
+copy_from_slice-requires c = let all : length c.args.codes ≡ 77 = search rules in omega (arith, length-take {A = ℕ})

@@ -1,39 +1,26 @@
--- `modbus::serve` meets its contract: one law for each thing that may be asked for; what was heard tells of lengths and numbers. Assumes
--- nothing.
-use native.Mathlib.Omega.{arith}
-use Rattle.modbus.proofs.Answering.{silent_served, exception_served, read_served, write_served}
-use Rattle.modbus.proofs.Fits.{heard-exception, heard_read, heard_write}
+-- By what was heard, which tells of lengths and numbers. Assumes nothing.
+use Rattle.std.proofs.Common.{arith, ◌∙◌}
+use Rattle.modbus.proofs.Answering.{replied_as, heard_as}
+use Rattle.modbus.proofs.Fits.{exception_fits, reads_fit, writes_fit}
 use Rattle.modbus.proofs.serve.Goals as goal
 
-pub bounds-request-0 : goal.bounds-request-0
-bounds-request-0 c = omega (arith, heard-exception _ _ _ _ _ c.hear.ensures _ c.in-Exception.is)
-
-pub bounds-request-1 : goal.bounds-request-1
-bounds-request-1 c = omega (arith, heard-exception _ _ _ _ _ c.hear.ensures _ c.in-Exception.is)
-
 pub refuse-requires : goal.refuse-requires
-refuse-requires c = omega (arith, heard-exception _ _ _ _ _ c.hear.ensures _ c.in-Exception.is)
+refuse-requires c = omega (arith, exception_fits _ _ _ _ _ (rw c.in-Ok-Exception.field-0-is at c.in-Ok-Exception.ensures))
 
-pub bounds-request-0-in-Read : goal.bounds-request-0-in-Read
-bounds-request-0-in-Read c = omega (arith, heard_read _ _ _ _ _ c.hear.ensures _ _ c.in-Read.is)
-
-pub bounds-request-1-in-Read : goal.bounds-request-1-in-Read
-bounds-request-1-in-Read c = omega (arith, heard_read _ _ _ _ _ c.hear.ensures _ _ c.in-Read.is)
-
-pub show-length-requires : goal.show-length-requires
-show-length-requires c = omega (arith, heard_read _ _ _ _ _ c.hear.ensures _ _ c.in-Read.is)
+pub show-requires : goal.show-requires
+show-requires c = omega (arith, reads_fit _ _ _ _ _ _ (rw c.in-Ok-Read.field-0-is at c.in-Ok-Read.ensures))
 
 pub write-requires : goal.write-requires
-write-requires c = omega (arith, heard_write _ _ _ _ _ c.hear.ensures _ _ c.in-Write.is)
+write-requires c = omega (arith, writes_fit _ _ _ _ _ _ (rw c.in-Ok-Write.field-0-is at c.in-Ok-Write.ensures))
 
-pub returns-in-Silent : goal.returns-in-Silent
-returns-in-Silent c = search silent_served
+pub returns-in-Ok-Write : goal.returns-in-Ok-Write
+returns-in-Ok-Write c = c.write.ensures ∙ heard_as _ _ _ _ _ (rw c.in-Ok-Write.field-0-is at c.in-Ok-Write.ensures)
 
-pub returns-in-Exception : goal.returns-in-Exception
-returns-in-Exception c = search exception_served
+pub returns-in-Err : goal.returns-in-Err
+returns-in-Err c = heard_as _ _ _ _ _ c.in-Err.ensures
 
-pub returns-in-Read : goal.returns-in-Read
-returns-in-Read c = search read_served
+pub returns-in-Ok-Exception : goal.returns-in-Ok-Exception
+returns-in-Ok-Exception c = replied_as _ _ _ _ _ c.refuse.ensures ∙ heard_as _ _ _ _ _ (rw c.in-Ok-Exception.field-0-is at c.in-Ok-Exception.ensures)
 
-pub returns-in-Write : goal.returns-in-Write
-returns-in-Write c = search write_served
+pub returns-in-Ok-Read : goal.returns-in-Ok-Read
+returns-in-Ok-Read c = replied_as _ _ _ _ _ c.show.ensures ∙ heard_as _ _ _ _ _ (rw c.in-Ok-Read.field-0-is at c.in-Ok-Read.ensures)

@@ -1,4 +1,4 @@
--- `modbus::show` meets its contract: head, registers and check are the body laid with its check. Assumes nothing.
+-- Head, registers and check are the body laid with its check. Assumes nothing.
 use Rattle.modbus.proofs.Laying.{show_laid}
 use Rattle.modbus.proofs.show.Goals as goal
 

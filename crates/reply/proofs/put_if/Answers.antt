@@ -9,5 +9,5 @@ returns-then-on c =
     let a = room-written _ _ _ _ _ (search rules) c.put_word.ensures in
     rw c.if-on.true record { value = a; upper_bound = omega (arith, a.0) }
 
-pub returns : goal.returns
-returns c = rw c.if-on.false record { value = laid_none _ _; upper_bound = omega arith }
+pub returns-else-on : goal.returns-else-on
+returns-else-on c = rw c.if-on.false record { value = laid_none _ _; upper_bound = omega arith }

@@ -8,8 +8,8 @@ returns-then-out-lt60 c = search batch-writing
 pub put_two-requires : goal.put_two-requires
 put_two-requires c = search volume_room
 
-pub returns-in-Nothing : goal.returns-in-Nothing
-returns-in-Nothing c = search batch-writing
+pub returns-in-None : goal.returns-in-None
+returns-in-None c = search batch-writing
 
-pub returns-in-Volume : goal.returns-in-Volume
-returns-in-Volume c = search batch-writing
+pub returns-in-Some : goal.returns-in-Some
+returns-in-Some c = search batch-writing

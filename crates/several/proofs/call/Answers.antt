@@ -1,48 +1,57 @@
 -- `several::call` meets its contract: `Walking` holds at each turn; one law for each way on and each way out. The measure is the bytes left.
 -- Assumes nothing.
+use Prim.Native.Nat.{◌+◌, ◌^◌, ◌<◌}
 use borrow.Author.Rules.{rules}
-use Rattle.state.specs.Valid.{valid}
-use Rattle.several.specs.Several.{called_record, several_of}
-use Rattle.several.proofs.Walk.{walk_begun, walk_refused, walk_stop, text-order, text_inside, count_fits, nearer_end, answer-fits}
-use Rattle.several.proofs.OfRecord.{address_in, serving_record, replying_record, walk_shown, walk_changed}
+use Rattle.several.specs.Several.{called_alone, several_held}
+use Rattle.several.proofs.Walk.{walk_begun, walk_refused, walk_stop, text-order, text_inside, count_fits, nearer_end, reply_fits, walk_changed, walk_unchanged}
+use Rattle.several.proofs.Form.{serving, replying}
 use Rattle.several.proofs.call.Goals as goal
 
-pub returns-then-not-valid : goal.returns-then-not-valid
-unfolding several_of
-returns-then-not-valid c = search (walk_refused called_record valid address_in)
+pub returns-then-not-is_valid : goal.returns-then-not-is_valid
+unfolding several_held
+returns-then-not-is_valid g c = search (walk_refused (called_alone g.H.Held.called) g.H.Held.valid g.H.Held.address)
 
 pub loop-place-init : goal.loop-place-init
-loop-place-init c = search (walk_begun called_record valid address_in)
+loop-place-init g c = search (walk_begun (called_alone g.H.Held.called) g.H.Held.valid g.H.Held.address)
 
-pub returns-in-Stop : goal.returns-in-Stop
-unfolding several_of
-returns-in-Stop c = search (walk_stop serving_record)
+pub returns-in-Err : goal.returns-in-Err
+unfolding several_held
+returns-in-Err g c = search (walk_stop (serving g.met.H.Held.laws g.met.H.Steady.steady))
 
-pub slice_bounds-reply_to-count : goal.slice_bounds-reply_to-count
-slice_bounds-reply_to-count c = search (text-order serving_record, rules)
+pub slice_bounds-text-count : goal.slice_bounds-text-count
+slice_bounds-text-count g c = search (text-order (serving g.met.H.Held.laws g.met.H.Steady.steady), rules)
 
-pub slice_bounds-reply_to-start : goal.slice_bounds-reply_to-start
-slice_bounds-reply_to-start c = search (text-order serving_record, rules)
+pub slice_bounds-text-start : goal.slice_bounds-text-start
+slice_bounds-text-start g c = search (text-order (serving g.met.H.Held.laws g.met.H.Steady.steady), rules)
 
-pub slice_bounds-reply_to-end : goal.slice_bounds-reply_to-end
-slice_bounds-reply_to-end c = search (text_inside serving_record, rules)
+pub slice_bounds-text-end : goal.slice_bounds-text-end
+slice_bounds-text-end g c = search (text_inside (serving g.met.H.Held.laws g.met.H.Steady.steady), rules)
 
 pub overflow_add-answered : goal.overflow_add-answered
-overflow_add-answered c = search (count_fits serving_record, rules)
+overflow_add-answered g c = search (count_fits (serving g.met.H.Held.laws g.met.H.Steady.steady), rules)
 
 pub overflow_add-written : goal.overflow_add-written
-overflow_add-written c = search (answer-fits serving_record, replying_record, rules)
+overflow_add-written g c =
+    let fits : c.loop-place.written + c.unwrap_or-written.result < 2 ^ 64 =
+    reply_fits (serving g.met.H.Held.laws g.met.H.Steady.steady) c.loop-place.invariant _ c.address-address.ensures _ c.next_due.ensures _ c.in-Ok.is
+    (replying g.met.H.Held.laws g.met.H.Steady.steady) g.H.Held.changed _ _ _ c.reply_to-replied.ensures _ c.unwrap_or-written.ensures in
+    search rules
 
-pub loop-place-smaller-in-Nothing : goal.loop-place-smaller-in-Nothing
-loop-place-smaller-in-Nothing c = search (nearer_end serving_record)
+pub loop-place-smaller-in-Some : goal.loop-place-smaller-in-Some
+loop-place-smaller-in-Some g c = search (nearer_end (serving g.met.H.Held.laws g.met.H.Steady.steady))
 
--- a reply, after which the record is as it was
-pub loop-place-preserved-in-Nothing : goal.loop-place-preserved-in-Nothing
-loop-place-preserved-in-Nothing c = search walk_shown
+-- a reply, whose effect is carried out
+pub loop-place-preserved-in-Some : goal.loop-place-preserved-in-Some
+loop-place-preserved-in-Some g c =
+    walk_changed (serving g.met.H.Held.laws g.met.H.Steady.steady) c.loop-place.invariant _ c.address-address.ensures _ c.next_due.ensures _ c.in-Ok.is
+    (replying g.met.H.Held.laws g.met.H.Steady.steady) g.H.Held.changed _ _ _ c.reply_to-replied.ensures _ c.unwrap_or-written.ensures _ _ c.in-Some.is c.carry_out.ensures
 
 pub loop-place-smaller : goal.loop-place-smaller
-loop-place-smaller c = search (nearer_end serving_record)
+loop-place-smaller g c = search (nearer_end (serving g.met.H.Held.laws g.met.H.Steady.steady))
 
--- ... or has taken a write
+-- ... or that has none
 pub loop-place-preserved : goal.loop-place-preserved
-loop-place-preserved c = search walk_changed
+loop-place-preserved g c =
+    walk_unchanged (serving g.met.H.Held.laws g.met.H.Steady.steady) c.loop-place.invariant _ c.address-address.ensures _ c.next_due.ensures _ c.in-Ok.is
+    (replying g.met.H.Held.laws g.met.H.Steady.steady) g.H.Held.changed _ _ _ c.reply_to-replied.ensures _ c.unwrap_or-written.ensures g.met.H.Held.laws.unchanged
+    (search rules)

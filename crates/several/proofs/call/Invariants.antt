@@ -2,14 +2,13 @@
 -- Assumes nothing.
 use Prim.Native.Nat.{◌-◌}
 use lib.ListN.{length}
-use Rattle.state.specs.Valid.{valid}
-use Rattle.several.specs.Several.{called_record}
+use Rattle.several.specs.Several.{called_alone}
 use Rattle.several.proofs.Walk.{Walking}
-use Rattle.several.proofs.OfRecord.{address_in}
 use Rattle.several.proofs.call.Given as goal
 
 abbrev pub invariant-loop-place : goal.invariant-loop-place
-invariant-loop-place l = Walking called_record valid address_in l.bytes l.initial.out l.initial.current l.out l.taken l.answered l.written l.current
+invariant-loop-place g l =
+    Walking (called_alone g.H.Held.called) g.H.Held.valid g.H.Held.address l.bytes l.initial.out l.initial.held l.out l.taken l.answered l.written l.held
 
 abbrev pub decreases-loop-place : goal.decreases-loop-place
-decreases-loop-place l = length l.bytes - l.taken
+decreases-loop-place g l = length l.bytes - l.taken

@@ -5,8 +5,8 @@ use lib.ListN.{length}
 use Rattle.several.proofs.Turns.{Turning}
 use Rattle.several.proofs.next_due.Given as goal
 
-abbrev pub invariant-loop-place : goal.invariant-loop-place
-invariant-loop-place l = Turning l.address l.room l.bytes l.from l.taken
+abbrev pub invariant-loop-start : goal.invariant-loop-start
+invariant-loop-start l = Turning l.address l.room l.bytes l.from l.taken
 
-abbrev pub decreases-loop-place : goal.decreases-loop-place
-decreases-loop-place l = length l.bytes - l.taken
+abbrev pub decreases-loop-start : goal.decreases-loop-start
+decreases-loop-start l = length l.bytes - l.taken

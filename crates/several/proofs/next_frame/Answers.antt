@@ -1,5 +1,5 @@
 -- `several::next_frame` meets its contract: `Seeking` holds at each turn of the walk and `Searching` at each turn of the search; one law for
--- each way on and each way out. The measures are the bytes left. Assumes nothing.
+-- each way on and each way out. The measure is the bytes left. Assumes nothing.
 use Rattle.several.proofs.Places.{search_turn}
 use Rattle.several.proofs.Seek.{seek_begun, seek_end, search_started, seek_nearer, seek_open, seek_byte, seek_long, seek_short, seek_frame}
 use Rattle.several.proofs.next_frame.Goals as goal
@@ -13,8 +13,8 @@ returns-then-bytes-start c = search seek_end
 pub search-init : goal.search-init
 search-init c = search search_started
 
-pub returns-then-bytes-at : goal.returns-then-bytes-at
-returns-then-bytes-at c = search seek_open
+pub returns-in-walk : goal.returns-in-walk
+returns-in-walk c = search seek_open
 
 pub walk-smaller-then-not-text_byte : goal.walk-smaller-then-not-text_byte
 walk-smaller-then-not-text_byte c = search seek_nearer

@@ -1,5 +1,5 @@
 -- `several::next_frame` meets its contract: `Seeking` holds at each turn of the walk and `Searching` at each turn of the search; one law for
--- each way on and each way out. The measures are the bytes left. Assumes nothing.
+-- each way on and each way out. The measure is the bytes left. Assumes nothing.
 use Prim.Native.Nat.{◌-◌}
 use lib.ListN.{length}
 use Rattle.several.proofs.Places.{Searching}
@@ -8,9 +8,6 @@ use Rattle.several.proofs.next_frame.Given as goal
 
 abbrev pub invariant-search : goal.invariant-search
 invariant-search l = Searching l.bytes l.initial.start l.start l.at
-
-abbrev pub decreases-search : goal.decreases-search
-decreases-search l = length l.bytes - l.at
 
 abbrev pub invariant-walk : goal.invariant-walk
 invariant-walk l = Seeking l.bytes l.from l.start

@@ -2,8 +2,8 @@
 use Rattle.text.proofs.Writing.{first-none, first-laid}
 use Rattle.sheet.proofs.write_units.Goals as goal
 
-pub returns-then-out-lt-LINE_ROOM : goal.returns-then-out-lt-LINE_ROOM
-returns-then-out-lt-LINE_ROOM c = search first-none
+pub returns-then-out-lt-LINE_ROOM-clause-written : goal.returns-then-out-lt-LINE_ROOM-clause-written
+returns-then-out-lt-LINE_ROOM-clause-written c = search first-none
 
-pub returns : goal.returns
-returns c = search first-laid
+pub returns-clause-written : goal.returns-clause-written
+returns-clause-written c = search first-laid

@@ -3,8 +3,8 @@ use borrow.Author.Rules.{rules}
 use Rattle.state.proofs.Parameters.{digits_outside, digits_inside, digits-none}
 use Rattle.state.proofs.by_digits.Goals as goal
 
-pub returns-then-not-recipe : goal.returns-then-not-recipe
-returns-then-not-recipe c = digits_outside _ (search rules)
+pub returns-then-not-contains : goal.returns-then-not-contains
+returns-then-not-contains c = digits_outside _ (search rules)
 
 pub returns-in-1 : goal.returns-in-1
 returns-in-1 c = digits_inside _ (search rules) _ (simp c.in-1.is)

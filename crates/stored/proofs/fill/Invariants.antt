@@ -2,13 +2,9 @@
 -- the number's. Assumes nothing.
 use mathlib.Core.Path.{◌≡◌}
 use mathlib.Core.List.{◌++◌}
-use Prim.Native.Nat.{◌≤◌}
 use lib.ListN.{length, drop}
 use Rattle.stored.specs.Form.{big_endian}
 use Rattle.stored.proofs.fill.Given as goal
 
-abbrev pub invariant-loop-left : goal.invariant-loop-left
-invariant-loop-left l = (l.left ≤ length l.out) × ((length l.out ≡ length l.initial.out) × (big_endian l.left l.rest ++ drop l.left l.out ≡ big_endian (length l.initial.out) l.n))
-
-abbrev pub decreases-loop-left : goal.decreases-loop-left
-decreases-loop-left l = l.left
+abbrev pub invariant-loop-i : goal.invariant-loop-i
+invariant-loop-i l = big_endian l.i l.rest ++ drop l.i l.out ≡ big_endian (length l.initial.out) l.n

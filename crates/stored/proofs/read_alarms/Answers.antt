@@ -1,19 +1,20 @@
 -- `stored::read_alarms` meets its contract: a law for each return. Assumes nothing.
-use Rattle.stored.proofs.Versions.{alarms-room}
+use Rattle.stored.proofs.Versions.{alarms_room}
 use Rattle.stored.proofs.Taking.{alarming}
+use borrow.Author.Rules.{rules}
 use Rattle.stored.proofs.read_alarms.Goals as goal
 
-pub returns-then-version-eq-WITHOUT_ALARMS : goal.returns-then-version-eq-WITHOUT_ALARMS
-returns-then-version-eq-WITHOUT_ALARMS c = search alarming
+pub returns-in_default : goal.returns-in_default
+returns-in_default c = search (alarming, rules)
 
 pub read_number-requires : goal.read_number-requires
-read_number-requires c = alarms-room _ c.if-version-eq-WITHOUT_ALARMS.false _ c.scalar_slot.ensures _ c.requires
+read_number-requires c = alarms_room _ c.in-WithAlarms.is _ c.scalar_slot.ensures _ c.requires
 
-pub returns-in_default : goal.returns-in_default
-returns-in_default c = search alarming
+pub returns-in_default-read_number : goal.returns-in_default-read_number
+returns-in_default-read_number c = search (alarming, rules)
 
 pub returns-then-n-ne0 : goal.returns-then-n-ne0
-returns-then-n-ne0 c = search alarming
+returns-then-n-ne0 c = search (alarming, rules)
 
 pub returns : goal.returns
-returns c = search alarming
+returns c = search (alarming, rules)

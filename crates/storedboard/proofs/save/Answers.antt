@@ -1,45 +1,15 @@
--- `storedboard::save` meets its contract. The invariant: nothing is written, and the records that are left decide as all of them do.
--- Assumes nothing.
-use Prim.Native.Nat.{◌<◌}
-use mathlib.Core.Path.{◌≡◌, ap}
-use native.Mathlib.Omega.{arith}
-use lib.ListN.{length, get_or}
-use Rattle.state.specs.declared.Record.{Record}
+-- `storedboard::save` meets its contract: a law for each return. Assumes nothing.
 use borrow.Author.Rules.{rules}
-use Rattle.storedboard.proofs.Writing.{placed, none_passed, at_place, one_passed, saved-none, saved-short, saved_nobody, saved_here}
+use Rattle.storedboard.proofs.Writing.{at_place, inside, saved_nobody, saved-short, saved_here}
 use Rattle.storedboard.proofs.save.Goals as goal
-use Rattle.storedboard.proofs.save.Goals.{Else-stored-end}
 
--- the code's reading of the array names a record for a place past the end: `at_place` lets go of it, so that no field is named here
-named : (c : Else-stored-end) → (none : Record) → get_or c.args.records c.loop-i.i none ≡ placed c.args.records c.loop-i.i
-named c =
-    let long : length c.args.records ≡ 16 = search rules in
-    let inside : c.loop-i.i < length c.args.records = omega arith in
-    at_place c.args.records c.loop-i.i inside
+pub returns-in_default : goal.returns-in_default
+returns-in_default c = search (saved_nobody, rules)
 
-pub returns-then-is_silent : goal.returns-then-is_silent
-returns-then-is_silent c = search saved-none
+pub returns-then-end-stored : goal.returns-then-end-stored
+returns-then-end-stored c =
+    let wrote = simp (at_place c.args.records.now c.in-Some.i (inside _ _ c.args.stored.now _ c.place_of.ensures _ c.in-Some.is)) at c.write.ensures in
+    search (saved_here _ _ _ _ c.place_of.ensures _ c.in-Some.is wrote)
 
-pub loop-i-init : goal.loop-i-init
-loop-i-init c = search none_passed
-
-pub returns-then-stored-end : goal.returns-then-stored-end
-returns-then-stored-end c = search saved-short
-
-pub shape_of-stored-then-record-address : goal.shape_of-stored-then-record-address
-shape_of-stored-then-record-address c = let same = ap length c.loop-i.invariant.same in search rules
-
-pub returns-then-record-address : goal.returns-then-record-address
-returns-then-record-address c =
-    let here = named (goal.at.returns-then-record-address c).Else-stored-end in
-    let wrote = simp here at c.write.ensures in
-    let its = simp here at c.if-record-address.true in
-    search (saved_here c.loop-i.invariant wrote its)
-
-pub loop-i-preserved : goal.loop-i-preserved
-loop-i-preserved c =
-    let other = simp (named (goal.at.loop-i-preserved c).Else-stored-end) at c.if-record-address.false in
-    search (one_passed c.loop-i.invariant other)
-
-pub returns : goal.returns
-returns c = search saved_nobody
+pub returns-else-end-stored : goal.returns-else-end-stored
+returns-else-end-stored c = search (saved-short, rules)

@@ -2,5 +2,5 @@
 use Rattle.week.proofs.Laws.{week_printed}
 use Rattle.week.proofs.write.Goals as goal
 
-pub returns : goal.returns
-returns c = search week_printed
+pub returns-clause-written : goal.returns-clause-written
+returns-clause-written c = search week_printed

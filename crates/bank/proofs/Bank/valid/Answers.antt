@@ -1,22 +1,15 @@
--- `bank::Bank::valid` meets its contract: what is left of the batches has the answer of the whole. Assumes nothing.
-use mathlib.Core.Path.{refl}
-use native.Mathlib.Omega.{arith}
-use Rattle.bank.proofs.Shift.{full}
-use Rattle.bank.proofs.Validity.{valid_long, valid_no, valid_again, valid_yes}
-use borrow.Author.Rules.{rules}
+-- `bank::Bank::valid` meets its contract: each of the batches that are kept is asked. Assumes nothing.
+use Rattle.std.proofs.Common.{◌≡◌, ◌∙◌, rules, tests}
+use Rattle.std.specs.List.{list_all}
+use Rattle.std.proofs.lemmas.Iterator.{YieldsList-from_slice}
+use Rattle.std.proofs.lemmas.Iterator.Search.{all_from_yields_List}
+use Rattle.bank.specs.Bank.{batch_valid, batches_in}
+use Rattle.bank.proofs.Validity.{valid_few}
 use Rattle.bank.proofs.Bank.valid.Goals as goal
 
-pub returns-then-count-gt-MOST : goal.returns-then-count-gt-MOST
-returns-then-count-gt-MOST c = search valid_long
-
-pub loop-i-init : goal.loop-i-init
-loop-i-init c = (omega arith, refl)
-
-pub returns-then-not-valid : goal.returns-then-not-valid
-returns-then-not-valid c = search (valid_no, full, rules)
-
-pub loop-i-preserved : goal.loop-i-preserved
-loop-i-preserved c = (omega arith, search (valid_again, full, rules))
-
 pub returns : goal.returns
-returns c = search (valid_yes, full, rules)
+returns c =
+    let kept = batches_in c.args.self in
+    let each : c.all.result ≡ list_all batch_valid kept =
+    all_from_yields_List batch_valid _ _ _ c.all.ensures.ran (YieldsList-from_slice kept cc) (λ x b q h. search (rules, tests)) in
+    each ∙ search (valid_few, rules)

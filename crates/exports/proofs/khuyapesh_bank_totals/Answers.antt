@@ -1,9 +1,0 @@
--- `exports::khuyapesh_bank_totals` meets its contract: one law for a short buffer, and one for what is handed out. Assumes nothing.
-use Rattle.exports.proofs.Totals.{bank-handing}
-use Rattle.exports.proofs.khuyapesh_bank_totals.Goals as goal
-
-pub returns-then-not-lay : goal.returns-then-not-lay
-returns-then-not-lay c = search bank-handing
-
-pub returns : goal.returns
-returns c = search bank-handing

@@ -1,8 +1,0 @@
--- `showing::show_first` meets its contract: the two sets of each bit are those of its test. Assumes nothing.
-use Rattle.knowledge.specs.Sets.{mask_from}
-use Rattle.showing.proofs.Status.{bits-told}
-use Rattle.showing.proofs.show_first.Goals as goal
-
-pub returns : goal.returns
-unfolding mask_from
-returns c = search bits-told
