@@ -124,6 +124,15 @@ member_at d x (y ∷ xs) (suc i) h e = ap (λ (b : Bool). eqb x y || b) (member_
     or_true true = refl
     or_true false = refl
 
+-- and the other way: one of the list stands at a place
+pub place_of_member : (d x : ℕ) (xs : List ℕ) → member x xs ≡ true → (i : ℕ) × ((i < length xs) × (get_or xs i d ≡ x))
+place_of_member d x [] h = absurd (false≢true h)
+place_of_member d x (y ∷ xs) h =
+    by_test (eqb x y) (λ e. (0, (omega arith, sym (eqb-true x y e)))) (λ e. behind (place_of_member d x xs (sym (ap (λ (b : Bool). b || member x xs) e) ∙ h)))
+  where
+    behind : (i : ℕ) × ((i < length xs) × (get_or xs i d ≡ x)) → (i : ℕ) × ((i < length (y ∷ xs)) × (get_or (y ∷ xs) i d ≡ x))
+    behind (i, (l, e)) = (suc i, (omega (arith, l), e))
+
 pub not_again : (d x : ℕ) (xs : List ℕ) → all_distinct (x ∷ xs) ≡ true → (j : ℕ) → j < length xs → get_or xs j d ≡ x → ⊥
 unfolding all_distinct
 not_again d x xs u j l e = false≢true (sym (not-true _ (and_left (not (member x xs)) (all_distinct xs) u)) ∙ member_at d x xs j l e)

@@ -164,14 +164,17 @@ impl Step {
 
 // ---- the texts
 
+fn two_digits(value: u32) -> Number
+    ensures { (result.width ≡ 2) × (result.value ≡ value) }
+{
+    Number { width: 2, value }
+}
+
 impl Change {
     fn recipe_number(self) -> Number
         ensures { (result.width ≡ 2) × (result.value ≡ self.recipe) }
     {
-        Number {
-            width: 2,
-            value: u32::from(self.recipe),
-        }
+        two_digits(u32::from(self.recipe))
     }
 
     // The code of the recipe's factor.

@@ -1,5 +1,5 @@
 -- Document 02, L7, on the bench record with an empty bank beside it: a batch that ends and is asked for in one stream, computed on the
--- definition that the promise of `call_banked` cites. Assumes nothing.
+-- definition that the promise of `call` over a record with a bank cites. Assumes nothing.
 use Rattle.std.specs.Prelude.{ℕ, ◌≡◌, refl, List, [], ◌∷◌}
 use Rattle.base.specs.Test.{all_between}
 use Rattle.base.specs.Lists.{over}
