@@ -496,52 +496,49 @@ fn by_record(r: Record, guards: Guards) -> Result<(), Refusal>
 // ---- what an accepted write changes
 
 #[tactic(auto, using(crate::proofs::Serving::storing))]
-fn with_value(mut r: Record, place: usize, value: u32) -> Record
-    ensures { result ≡ applied (changes_of (writing_as (Writing.SetValue place value))) r }
+fn set_value(r: &mut Record, place: usize, value: u32)
+    ensures { r.new ≡ applied (changes_of (writing_as (Writing.SetValue place value))) r.old }
 {
     // Switched on exactly if the value differs from the one held; else the flag stays.
     r.changed |= r.value_at(place) != value;
     if place < PARAMETERS {
         r.values[place] = value;
     }
-    r
 }
 
 #[tactic(auto, using(crate::proofs::Serving::storing))]
-fn with_level(mut r: Record, place: usize, level: u8) -> Record
-    ensures { result ≡ put (Field.level place) level r }
+fn set_level(r: &mut Record, place: usize, level: u8)
+    ensures { r.new ≡ put (Field.level place) level r.old }
 {
     if place < PARAMETERS {
         r.levels[place] = level;
     }
-    r
 }
 
+// In place: a record is long, and each copy of it takes time.
 #[tactic(auto, using(crate::proofs::Serving::applied_as), unfolding(crate::specs::Commands::applied, crate::specs::Commands::row_of, state::specs::Field::put, state::specs::Event::batch_set, text::specs::Word::equal))]
+pub fn take(r: &mut Record, request: Writing)
+    ensures { r.new ≡ applied (changes_of (writing_as request)) r.old }
+{
+    match request {
+        Writing::SetValue(place, value) => set_value(r, place, value),
+        Writing::SetLevel(place, level) => set_level(r, place, level),
+        Writing::SelectRecipe(recipe) => r.recipe = recipe,
+        Writing::SetBatch(preset) => *r = r.set_batch(preset),
+        Writing::Start => *r = r.start(),
+        Writing::Stop => *r = r.stop(),
+        Writing::End => *r = r.end(),
+        Writing::ClearReset => r.reset = false,
+        Writing::ClearChanged => r.changed = false,
+        Writing::ResetAlarms => *r = r.reset_alarms(),
+    }
+}
+
 pub fn apply(mut r: Record, request: Writing) -> Record
     ensures { result ≡ applied (changes_of (writing_as request)) r }
 {
-    match request {
-        Writing::SetValue(place, value) => with_value(r, place, value),
-        Writing::SetLevel(place, level) => with_level(r, place, level),
-        Writing::SelectRecipe(recipe) => {
-            r.recipe = recipe;
-            r
-        }
-        Writing::SetBatch(preset) => r.set_batch(preset),
-        Writing::Start => r.start(),
-        Writing::Stop => r.stop(),
-        Writing::End => r.end(),
-        Writing::ClearReset => {
-            r.reset = false;
-            r
-        }
-        Writing::ClearChanged => {
-            r.changed = false;
-            r
-        }
-        Writing::ResetAlarms => r.reset_alarms(),
-    }
+    take(&mut r, request);
+    r
 }
 
 // ---- a request served

@@ -107,7 +107,7 @@ impl Held for Record {
     }
 
     fn carry_out(&mut self, writing: Writing) {
-        *self = command::apply(*self, writing);
+        command::take(self, writing);
     }
 }
 

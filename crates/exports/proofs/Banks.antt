@@ -294,25 +294,29 @@ module _ (b o d : List ℕ) (x : Result Bank Refused) (e : storedbank.reading_as
         (λ h. ap (λ (p : storedbank.Outcome × List ℕ). (bank_answer a, p.1)) (written_by true h) ∙ bytes_by true h)
         (λ h. absurd (let y : storedbank.done ≡ storedbank.K 6 = sym (ap storedbank.written_as z) ∙ ap (λ (p : storedbank.Outcome × List ℕ). p.0) (written_by false h) in never (cc)))
 
-  module _ (i : x ≡ Ok k) where
-    whole_so : (storedbank.done, k) ≡ storedbank.read_of b
-    whole_so = sym (ap storedbank.reading_as i) ∙ e
+  -- what stands in the place of what was read, and the answer that goes with it
+  module _ (r : Result Bank Refused) (n : ℕ) (held : r ≡ Ok k) where
+    module _ (j : r ≡ x) where
+      whole_so : (storedbank.done, k) ≡ storedbank.read_of b
+      whole_so = sym (ap storedbank.reading_as held) ∙ (ap storedbank.reading_as j ∙ e)
 
-    pub whole_short : (u : bankwritten.WriteRefusal) → w ≡ Err u → (206, d) ≡ bank_bytes b o
-    whole_short u z = no_room storedbank.done whole_so u z
+      pub whole_short : (u : bankwritten.WriteRefusal) → w ≡ Err u → (206, d) ≡ bank_bytes b o
+      whole_short u z = no_room storedbank.done whole_so u z
 
-    pub whole_copied : (u : Unit {0}) → w ≡ Ok u → (0, d) ≡ bank_bytes b o
-    whole_copied u z = copied storedbank.done whole_so u z
+      pub whole_copied : n ≡ 0 → (u : Unit {0}) → w ≡ Ok u → (n, d) ≡ bank_bytes b o
+      whole_copied l u z = ap (λ (m : ℕ). (m, d)) l ∙ copied storedbank.done whole_so u z
 
-  -- the empty bank beside a refusal
-  module _ (v : Refused) (i : x ≡ Err v) (none : k ≡ empty_bank) where
-    refused_so : (storedbank.K 7, k) ≡ storedbank.read_of b
-    refused_so = ap (λ (y : Bank). (storedbank.K 7, y)) none ∙ (sym (ap storedbank.reading_as i) ∙ e)
+    -- the empty bank beside a refusal
+    module _ (v : Refused) (i : x ≡ Err v) (y : Bank) (none : y ≡ empty_bank) (j : r ≡ Ok y) where
+      refused_so : (storedbank.K 7, k) ≡ storedbank.read_of b
+      refused_so =
+          ap (λ (q : Result Bank Refused). (storedbank.K 7, (storedbank.reading_as q).1)) (sym held ∙ j)
+          ∙ (ap (λ (q : Bank). (storedbank.K 7, q)) none ∙ (sym (ap storedbank.reading_as i) ∙ e))
 
-    pub refused_short : (u : bankwritten.WriteRefusal) → w ≡ Err u → (206, d) ≡ bank_bytes b o
-    refused_short u z = no_room (storedbank.K 7) refused_so u z
+      pub refused_short : (u : bankwritten.WriteRefusal) → w ≡ Err u → (206, d) ≡ bank_bytes b o
+      refused_short u z = no_room (storedbank.K 7) refused_so u z
 
-    pub refused_copied : (u : Unit {0}) → w ≡ Ok u → (207, d) ≡ bank_bytes b o
-    refused_copied u z = copied (storedbank.K 7) refused_so u z
+      pub refused_copied : n ≡ 207 → (u : Unit {0}) → w ≡ Ok u → (n, d) ≡ bank_bytes b o
+      refused_copied l u z = ap (λ (m : ℕ). (m, d)) l ∙ copied (storedbank.K 7) refused_so u z
 
 pub ruleset bank_copying = (whole_short, whole_copied, refused_short, refused_copied)

@@ -140,10 +140,13 @@ pub stored_short : (s o : List ℕ) → length o < 180 → (206, o) ≡ stored_b
 unfolding stored_bytes
 stored_short s o h = simp (stored_180, lt-leb 180 (length o) h)
 
-module _ (s o b : List ℕ) (h : 180 ≤ length o) (x : Result Record Refusal) (e : reading_as x ≡ stored.read_of s) (r : Record) (w : Result (Unit {0}) WriteRefusal) (d : (written_as w, b) ≡ write_of r o) where
+pub stored_roomy : (o : List ℕ) → 180 ≤ length o → has_room o ≡ true
+stored_roomy o h = le-leb _ _ (omega (arith, stored_180))
+
+module _ (s o b : List ℕ) (h : has_room o ≡ true) (x : Result Record Refusal) (e : reading_as x ≡ stored.read_of s) (r : Record) (w : Result (Unit {0}) WriteRefusal) (d : (written_as w, b) ≡ write_of r o) where
   module _ (a : stored.Outcome) (f : (a, r) ≡ stored.read_of s) where
     room : stored_length current ≤ length o
-    room = omega (arith, stored_180)
+    room = leb-true _ _ h
 
     write_done : IsOk w
     write_done = write_ok r o b w (record_valid s a r (sym f)) room d

@@ -7,7 +7,7 @@ use mathlib.Core.Logic.{◌⊎◌, inl, inr, ◌↔◌}
 use native.Mathlib.Omega.{arith}
 use lib.Dec.{eqb, leb}
 use lib.ListN.{length}
-use borrow.Author.Tests.{eqb-false, not-true, not-false}
+use borrow.Author.Tests.{eqb-false, lt-leb, le-leb, not-true, not-false}
 use Rattle.base.specs.Test.{unless}
 use Rattle.base.specs.Lists.{over}
 use Rattle.base.proofs.Tests.{by_test}
@@ -79,32 +79,23 @@ module _ (s : ℕ) (x : Option ℕ) (o o₁ : List ℕ) (e : (unwrap_or x 0, o�
 pub ruleset units_writing = (units_short, units_written, units_fit)
 
 -- `khuyapesh_totals_text`
-module _ (bs o o₁ : List ℕ) (a : Result (Unit {0}) Refused) (x : Option ℕ) (e : (answer_as a, (unwrap_or x 0, o₁)) ≡ write_of bs o) (filled : is_some x ≡ leb room (length o)) where
-  by_text : (b : Bool) → leb room (length o) ≡ b
-      → ◌≡◌ {A = storedbank.Outcome × (ℕ × List ℕ)} (answer_as a, (unwrap_or x 0, o₁)) ((week_of bs).0, unless b (0, o) (length (week_text bs), over (week_text bs) o))
-  unfolding write_of written_first
-  by_text b h = e ∙ simp h
+pub text_short : (bs o : List ℕ) → length o < room → (401, (0, o)) ≡ text_bytes bs o
+unfolding text_bytes
+text_short bs o h = simp (lt-leb _ _ h)
 
-  pub text_short : x ≡ None → (401, (0, o₁)) ≡ text_bytes bs o
-  unfolding text_bytes
-  text_short z =
-      let h : leb room (length o) ≡ false = sym filled ∙ ap is_some z in
-      ap (λ (p : storedbank.Outcome × (ℕ × List ℕ)). (401, (0, p.1.1))) (by_text false h) ∙ sym (simp h)
+module _ (bs o o₁ : List ℕ) (a : Result (Unit {0}) Refused) (x : Option ℕ) (e : (answer_as a, (unwrap_or x 0, o₁)) ≡ write_of bs o) (roomy : room ≤ length o) (m : ℕ) (z : x ≡ Some m) where
+  text_there : (b : Result (Unit {0}) Refused) → a ≡ b → (bank_answer (answer_as b), (m, o₁)) ≡ text_bytes bs o
+  unfolding text_bytes write_of
+  text_there b f =
+      ap (λ (y : Result (Unit {0}) Refused). (bank_answer (answer_as y), (m, o₁))) (sym f)
+      ∙ (ap (λ (y : Option ℕ). (bank_answer (answer_as a), (unwrap_or y 0, o₁))) (sym z)
+      ∙ (ap (λ (p : storedbank.Outcome × (ℕ × List ℕ)). (bank_answer p.0, p.1)) e ∙ sym (simp (le-leb _ _ roomy))))
 
-  module _ (m : ℕ) (z : x ≡ Some m) where
-    text_there : (b : Result (Unit {0}) Refused) → a ≡ b → (bank_answer (answer_as b), (m, o₁)) ≡ text_bytes bs o
-    unfolding text_bytes write_of
-    text_there b f =
-        let h : leb room (length o) ≡ true = sym filled ∙ ap is_some z in
-        ap (λ (y : Result (Unit {0}) Refused). (bank_answer (answer_as y), (m, o₁))) (sym f)
-        ∙ (ap (λ (y : Option ℕ). (bank_answer (answer_as a), (unwrap_or y 0, o₁))) (sym z)
-        ∙ (ap (λ (p : storedbank.Outcome × (ℕ × List ℕ)). (bank_answer p.0, p.1)) e ∙ sym (simp h)))
+  pub text_whole : (u : Unit {0}) → a ≡ Ok u → (0, (m, o₁)) ≡ text_bytes bs o
+  text_whole u f = text_there (Ok u) f
 
-    pub text_whole : (u : Unit {0}) → a ≡ Ok u → (0, (m, o₁)) ≡ text_bytes bs o
-    text_whole u f = text_there (Ok u) f
-
-    pub text_refused : (u : Refused) → a ≡ Err u → (207, (m, o₁)) ≡ text_bytes bs o
-    text_refused u f = text_there (Err u) f
+  pub text_refused : (u : Refused) → a ≡ Err u → (207, (m, o₁)) ≡ text_bytes bs o
+  text_refused u f = text_there (Err u) f
 
 pub ruleset text_writing = (text_short, text_whole, text_refused)
 

@@ -1,7 +1,7 @@
 // The functions of include/khuyapesh.h, for C and Rust: bytes and numbers in, bytes and numbers out.
 #![tactic(auto)]
 
-ghost use Rattle.std.specs.Prelude.{◌≡◌, ◌≤◌, Some, None};
+ghost use Rattle.std.specs.Prelude.{◌≡◌, ◌≤◌, true, Some, None};
 ghost use Rattle.base.specs.Test.{pick};
 ghost use Rattle.stored.specs.Form.{K, refusal_number};
 ghost use Rattle.frame.specs.Numbers.{silence_number, length_in, built_as, read_as};
@@ -20,7 +20,7 @@ ghost use Rattle.modbus.specs.Numbers.{silence_number as modbus_number};
 ghost use Rattle.modbus.specs.Call.{modbus_of};
 ghost use Rattle.exports.specs.Modbus.{modbus_silence, modbus_left, modbus_bytes, banked_modbus_bytes};
 ghost use Rattle.exports.specs.Totals.{totals_answer, handed_out, totals_numbers, bank_totals_numbers, units_bytes, text_bytes};
-ghost use Rattle.exports.specs.Bytes.{silence_answer, stored_answer, recording_answer, host_answer, is_event, event_of, Opened, open_of, call_left, call_bytes, several_numbers, reported_as, several_as, several_left, several_bytes, open_banked, saved_bank, banked_left, banked_bytes, banked_several_left, banked_several_bytes, bank_bytes, heard_answer, board_answer, answer_left, Tellable, board_bytes, panel_bytes, stored_bytes, build_bytes, read_bytes, drum_answer, drum_left, judge_numbers, known_numbers, learn_numbers, may_hold_number, why_as, reason_numbers, why_numbers, exchange_numbers};
+ghost use Rattle.exports.specs.Bytes.{has_room, silence_answer, stored_answer, recording_answer, host_answer, is_event, event_of, Opened, open_of, call_left, call_bytes, several_numbers, reported_as, several_as, several_left, several_bytes, open_banked, saved_bank, banked_left, banked_bytes, banked_several_left, banked_several_bytes, bank_bytes, heard_answer, board_answer, answer_left, Tellable, board_bytes, panel_bytes, stored_bytes, build_bytes, read_bytes, drum_answer, drum_left, judge_numbers, known_numbers, learn_numbers, may_hold_number, why_as, reason_numbers, why_numbers, exchange_numbers};
 
 use bank::Bank;
 use banked::Banked;
@@ -455,15 +455,18 @@ pub extern "C" fn khuyapesh_banked_several(
 pub extern "C" fn khuyapesh_bank(bank: &[u8], out: &mut [u8]) -> u32
     ensures { (result, out.new) ≡ bank_bytes bank.now out.old }
 {
-    match storedbank::read(bank) {
-        Ok(read) => match storedbank::write(read, out) {
-            Ok(()) => 0,
-            Err(_) => NO_ROOM,
-        },
-        Err(_) => match storedbank::write(bank::empty(), out) {
-            Ok(()) => NO_BANK,
-            Err(_) => NO_ROOM,
-        },
+    // The empty bank takes the place of what was read: the stack holds one bank, not two.
+    let mut read = storedbank::read(bank);
+    let answer = match read {
+        Ok(_) => 0,
+        Err(_) => {
+            read = Ok(bank::empty());
+            NO_BANK
+        }
+    };
+    match storedbank::write(read.unwrap(), out) {
+        Ok(()) => answer,
+        Err(_) => NO_ROOM,
     }
 }
 
@@ -525,12 +528,13 @@ pub extern "C" fn khuyapesh_units(sum: u64, out: &mut [u8]) -> u32
 pub extern "C" fn khuyapesh_totals_text(bank: &[u8], out: &mut [u8], written: &mut usize) -> u32
     ensures { (result, (written.new, out.new)) ≡ text_bytes bank.now out.old }
 {
-    let printed = week::write(bank, out);
-    let Some(length) = printed.written else {
+    // before the bank is read: without room it costs nothing
+    if out.len() < sheet::ROOM {
         *written = 0;
         return SHORT_BUFFER;
-    };
-    *written = length;
+    }
+    let printed = week::write(bank, out);
+    *written = printed.written.unwrap();
     match printed.answer {
         Ok(()) => 0,
         Err(_) => NO_BANK,
@@ -627,14 +631,12 @@ pub extern "C" fn khuyapesh_panel(event: u8, number: u16, stored: &mut [u8]) -> 
 
 // ---- the stored form
 
-// Reads a stored record and writes what was read; the low record beside a refusal.
-#[unsafe(no_mangle)]
-pub extern "C" fn khuyapesh_stored(stored: &[u8], out: &mut [u8]) -> u32
+// What was read, or the low record beside a refusal, where there is room for it. A function of its own, so that a buffer that is too short
+// costs nothing: the places for records are made here.
+fn copy_stored(stored: &[u8], out: &mut [u8]) -> u32
+    requires { has_room out.old ≡ true }
     ensures { (result, out.new) ≡ stored_bytes stored.now out.old }
 {
-    if out.len() < STORED_LENGTH {
-        return NO_ROOM;
-    }
     match stored::read(stored) {
         Ok(record) => {
             stored::write(record, out).unwrap();
@@ -645,6 +647,17 @@ pub extern "C" fn khuyapesh_stored(stored: &[u8], out: &mut [u8]) -> u32
             refusal_answer(why)
         }
     }
+}
+
+// Reads a stored record and writes what was read; the low record beside a refusal.
+#[unsafe(no_mangle)]
+pub extern "C" fn khuyapesh_stored(stored: &[u8], out: &mut [u8]) -> u32
+    ensures { (result, out.new) ≡ stored_bytes stored.now out.old }
+{
+    if out.len() < STORED_LENGTH {
+        return NO_ROOM;
+    }
+    copy_stored(stored, out)
 }
 
 // ---- the host side

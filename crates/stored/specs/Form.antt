@@ -136,6 +136,11 @@ abbrev pub reading_as : Result Record Refusal → Outcome × Record
 reading_as (Ok r) = (done, r)
 reading_as (Err k) = (K (refusal_number k), low_record)
 
+-- the same of an answer and the record that was filled in place, which counts only where all was read
+abbrev pub filled_as : Result (Unit {0}) Refusal → Record → Outcome × Record
+filled_as (Ok u) r = (done, r)
+filled_as (Err k) r = (K (refusal_number k), low_record)
+
 -- what the numbers in the slots of some items make of a record: each goes into its field, if all fit
 unfoldable pub taken_from : ℕ → List Item → List ℕ → Record → Outcome × Record
 taken_from at xs bs r =

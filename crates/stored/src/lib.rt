@@ -7,7 +7,7 @@ ghost use Rattle.base.specs.Test.{member};
 ghost use Rattle.state.specs.Parameter.{parameter_count, range_at};
 ghost use Rattle.state.specs.Field.{value, level, phase_of};
 ghost use Rattle.stored.specs.Layout.{alone, parameter_items, versions, current, scalars_of, scalar_place, header_width, parameters_at, item_slot, slot_of, scalar_slots, no_slot, flag_fields, bits, numbers_of};
-ghost use Rattle.stored.specs.Form.{version_number, version_as, header_as, reading_as, written_as, refusal_number, big_endian, number_of, packed, stored, stored_length, version_of, header_bytes, write_of, header_of, low_record, taken_from, body_of, read_of, number_read, alarms_at, parameter_read};
+ghost use Rattle.stored.specs.Form.{version_number, version_as, header_as, reading_as, filled_as, written_as, refusal_number, big_endian, number_of, packed, stored, stored_length, version_of, header_bytes, write_of, header_of, low_record, taken_from, body_of, read_of, number_read, alarms_at, parameter_read};
 
 use state::{
     ACCESS_RANGE, ADDRESS_RANGE, LEVEL_RANGE, NUMBER_RANGE, PARAMETERS, PHASE_RANGE, PRESET_RANGE,
@@ -419,11 +419,11 @@ fn read_parameter(s: &[u8], version: Version, i: usize, range: Range) -> Option<
     Some((value, level as u8))
 }
 
-// Reads the parameters' numbers into a record. Each recipe's have the ranges of the first's: to ask for the range at every place took
-// twice the instructions.
-fn read_parameters(s: &[u8], version: Version, mut r: Record) -> Result<Record, Refusal>
+// Reads the parameters' numbers into a record, in place: a record is long, and each copy of it takes time. Each recipe's have the
+// ranges of the first's: to ask for the range at every place took twice the instructions.
+fn read_parameters(s: &[u8], version: Version, r: &mut Record) -> Result<(), Refusal>
     requires { parameters_at (version_number version) + 5 * parameter_count ≤ length s.now }
-    ensures { reading_as result ≡ taken_from (parameters_at (version_number version)) (parameter_items parameter_count) s.now r }
+    ensures { filled_as result r.new ≡ taken_from (parameters_at (version_number version)) (parameter_items parameter_count) s.now r.old }
 {
     for recipe in 0..RECIPES {
         for kind in 0..3 {
@@ -442,7 +442,7 @@ fn read_parameters(s: &[u8], version: Version, mut r: Record) -> Result<Record, 
         r.values[i] = value;
         r.levels[i] = level;
     }
-    Ok(r)
+    Ok(())
 }
 
 // Reads the numbers behind the header, one after the other.
@@ -480,27 +480,27 @@ fn read_numbers(s: &[u8]) -> Result<Record, Refusal>
     let Some(alarms) = read_alarms(s, version) else {
         return Err(Refusal::Field);
     };
-    read_parameters(
-        s,
-        version,
-        Record {
-            address: address as u8,
-            access: access as u8,
-            phase: phase_of(phase),
-            keypad: flags % 2 == 1,
-            flow: flags / 2 % 2 == 1,
-            changed: flags / 2 / 2 % 2 == 1,
-            reset: flags / 2 / 2 / 2 % 2 == 1,
-            powerfail: flags / 2 / 2 / 2 / 2 % 2 == 1,
-            recipe: recipe as u8,
-            preset,
-            raw,
-            number: number as u16,
-            alarms: alarms / 256 * 8 + alarms / 16 % 8,
-            values: [0; PARAMETERS],
-            levels: [0; PARAMETERS],
-        },
-    )
+    let mut record = Record {
+        address: address as u8,
+        access: access as u8,
+        phase: phase_of(phase),
+        keypad: flags % 2 == 1,
+        flow: flags / 2 % 2 == 1,
+        changed: flags / 2 / 2 % 2 == 1,
+        reset: flags / 2 / 2 / 2 % 2 == 1,
+        powerfail: flags / 2 / 2 / 2 / 2 % 2 == 1,
+        recipe: recipe as u8,
+        preset,
+        raw,
+        number: number as u16,
+        alarms: alarms / 256 * 8 + alarms / 16 % 8,
+        values: [0; PARAMETERS],
+        levels: [0; PARAMETERS],
+    };
+    let Err(refusal) = read_parameters(s, version, &mut record) else {
+        return Ok(record);
+    };
+    Err(refusal)
 }
 
 // Reads a stored record.

@@ -1,18 +1,9 @@
--- `exports::khuyapesh_stored` meets its contract: every record that is read is valid, so only a short buffer stops the writing. Assumes nothing.
-use Rattle.exports.proofs.Steps.{storing}
+-- `exports::khuyapesh_stored` meets its contract: only a short buffer stops the writing. Assumes nothing.
+use Rattle.exports.proofs.Steps.{stored_short, stored_roomy}
 use Rattle.exports.proofs.khuyapesh_stored.Goals as goal
 
-pub unwrap-requires : goal.unwrap-requires
-unwrap-requires c = search storing
-
-pub unwrap-requires-in-Err : goal.unwrap-requires-in-Err
-unwrap-requires-in-Err c = search storing
-
-pub returns-in-Ok : goal.returns-in-Ok
-returns-in-Ok c = search storing
-
-pub returns-in-Err : goal.returns-in-Err
-returns-in-Err c = search storing
-
 pub returns-then-out-lt-STORED_LENGTH : goal.returns-then-out-lt-STORED_LENGTH
-returns-then-out-lt-STORED_LENGTH c = search storing
+returns-then-out-lt-STORED_LENGTH c = search stored_short
+
+pub copy_stored-requires : goal.copy_stored-requires
+copy_stored-requires c = search stored_roomy

@@ -2,11 +2,11 @@
 use Rattle.exports.proofs.Totals.{text_writing}
 use Rattle.exports.proofs.khuyapesh_totals_text.Goals as goal
 
-pub returns-in_default : goal.returns-in_default
-returns-in_default c = search text_writing
-
 pub returns-in-Ok : goal.returns-in-Ok
 returns-in-Ok c = search text_writing
 
 pub returns-in-Err : goal.returns-in-Err
 returns-in-Err c = search text_writing
+
+pub returns-then-out-lt-ROOM : goal.returns-then-out-lt-ROOM
+returns-then-out-lt-ROOM c = search text_writing
